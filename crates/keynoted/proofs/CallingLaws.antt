@@ -6,7 +6,7 @@ use Rattle.kn_outside.specs.Seen.{LinkSeen}
 use Rattle.kn_outside.specs.Faults.{Rose}
 use Rattle.kn_daemon.specs.declared.ended.Ended.TheVariants as E
 use Rattle.kn_follow.specs.Laws.{OneEnding}
-use Rattle.kn_play.specs.Meaning.{OneQueryOfScript}
+use Rattle.kn_play.specs.LastQueries.{OneQueryOfScript}
 use Rattle.kn_transcript.specs.Laws.{OneVerdict}
 use Rattle.kn_serve.specs.Serving.{IsOrderly, IsFaultless}
 use Rattle.kn_workers.specs.Connections.{ServedSeen}
@@ -25,10 +25,10 @@ use Rattle.keynoted.specs.Outcomes.{NoCommand, WordsLackMemory, AskEnded, ServeE
 use Rattle.keynoted.specs.Outcomes.{VerifyEnded, GenEnded}
 use Rattle.keynoted.specs.Calling.{AskLeads, CheckLeads, LogLeads, TranscriptLeads, IsOrderlyLink, NoReadFailed}
 use Rattle.keynoted.specs.Calling.{CallsFor, EndsWith, ByAsk, ByServe, ByCheck, ByFollow, ByVerify, ByGen}
-use Rattle.kn_words.proofs.Apart.{ask_is_no_check, gen_is_no_ask, gen_is_no_check, ask_is_no_serve}
-use Rattle.kn_words.proofs.Apart.{check_is_no_serve, follow_is_no_ask, follow_is_no_check, follow_is_no_serve}
-use Rattle.kn_words.proofs.Apart.{gen_is_no_follow, gen_is_no_serve, gen_is_no_verify, verify_is_no_ask}
-use Rattle.kn_words.proofs.Apart.{verify_is_no_check, verify_is_no_follow, verify_is_no_serve}
+use Rattle.kn_words.proofs.WordSplits.{ask_is_no_check, gen_is_no_ask, gen_is_no_check, ask_is_no_serve}
+use Rattle.kn_words.proofs.WordSplits.{check_is_no_serve, follow_is_no_ask, follow_is_no_check, follow_is_no_serve}
+use Rattle.kn_words.proofs.WordSplits.{gen_is_no_follow, gen_is_no_serve, gen_is_no_verify, verify_is_no_ask}
+use Rattle.kn_words.proofs.WordSplits.{verify_is_no_check, verify_is_no_follow, verify_is_no_serve}
 use Rattle.keynoted.proofs.FileLaws.{told_by, same_ask, same_names, same_log, same_files}
 use Rattle.keynoted.proofs.FileLaws.{same_transcript}
 use Rattle.keynoted.proofs.OneStatusLaws.{ask_once, check_once, log_once, transcript_once}

@@ -7,14 +7,14 @@ use Rattle.kn_outside.specs.Seen.{FilesSeen, LinkSeen}
 use Rattle.kn_outside.specs.Faults.{Rose}
 use Rattle.kn_fields.specs.declared.fault.ReadFault.{ReadFault}
 use Rattle.kn_auth.specs.declared.key_file.KeyFile.{KeyFile}
-use Rattle.kn_auth.proofs.Whole.{file_or_line}
+use Rattle.kn_auth.proofs.KeyFiles.{file_or_line}
 use Rattle.kn_files.specs.Pieces.{pieces_of}
 use Rattle.kn_follow.specs.Laws.{OneEnding}
 use Rattle.kn_follow.specs.declared.fault.FollowFault.{FollowFault}
 use Rattle.kn_follow.specs.declared.fault.FollowFault.TheVariants as F
 use Rattle.kn_check.specs.declared.reject.Reject.{Reject}
 use Rattle.kn_proof.specs.declared.reply.ReadReply.{ReadReply}
-use Rattle.kn_proof.proofs.Only.{one_reply, reply_without_fault}
+use Rattle.kn_proof.proofs.OneReplyOrFault.{one_reply, reply_without_fault}
 use Rattle.kn_reply.specs.declared.refusal.LimitWord.{LimitWord}
 use Rattle.kn_session.specs.Sessions.{Session}
 use Rattle.kn_history.specs.History.{loaded_history}
@@ -33,8 +33,8 @@ use Rattle.kn_serve.specs.Serving.{IsOrderly, IsFaultless}
 use Rattle.kn_workers.specs.Connections.{ServedSeen}
 use Rattle.kn_workers.specs.Doors.{DoorSeen}
 use Rattle.kn_workers.specs.Nets.{NetSeen}
-use Rattle.kn_inputs.specs.declared.stop.Stop.{Stop}
-use Rattle.kn_inputs.specs.declared.stop.Stop.TheVariants as S
+use Rattle.kn_inputs.specs.declared.input_fault.InputFault.{InputFault}
+use Rattle.kn_inputs.specs.declared.input_fault.InputFault.TheVariants as S
 use Rattle.kn_endings.specs.declared.ask_ending.AskEnding.{AskEnding}
 use Rattle.kn_endings.specs.declared.ask_ending.AskEnding.TheVariants as A
 use Rattle.keynoted.specs.declared.serve_ending.ServeEnding.{ServeEnding}
@@ -46,11 +46,11 @@ use Rattle.kn_endings.specs.declared.verify_ending.VerifyEnding.{VerifyEnding}
 use Rattle.kn_endings.specs.declared.verify_ending.VerifyEnding.TheVariants as Y
 use Rattle.kn_words.specs.declared.files.Source.{Source}
 use Rattle.kn_words.specs.declared.files.Source.TheVariants.{Policy, Script as TheScript, Reply}
-use Rattle.kn_endings.specs.declared.ending.Ending.{Ending}
-use Rattle.kn_endings.specs.declared.ending.Ending.TheVariants.{Stopped, NoQuery, Faulty, Rejected, Proved}
+use Rattle.kn_endings.specs.declared.check_ending.CheckEnding.{CheckEnding}
+use Rattle.kn_endings.specs.declared.check_ending.CheckEnding.TheVariants.{Stopped, NoQuery, Faulty, Rejected, Proved}
 use Rattle.kn_words.specs.Names.{AskNames, CheckNames, VerifyNames}
 use Rattle.kn_words.specs.Orders.{Order}
-use Rattle.kn_inputs.specs.Stops.{status_of}
+use Rattle.kn_inputs.specs.InputFaults.{status_of}
 use Rattle.kn_endings.specs.AskEndings.{status_of_ended, status_of_ask}
 use Rattle.kn_words.specs.Sources.{name_of}
 use Rattle.kn_endings.specs.CheckEndings.{status_of_ending}
@@ -106,7 +106,7 @@ rejected_is_no_proof session values text reject unproved reply proof =
 module _ (f f' : FilesSeen) (specified : IsSpecified f) (calm : ¬ Rose f.faults f'.faults) where
   -- a policy file stopped the run
   module _ (name : List ℕ) (On : List ℕ → ℕ → Type 0) (due : ℕ) where
-    stopped_policy : (stop : Stop) → StopsAtPolicy f f' name stop → due ≡ status_of stop
+    stopped_policy : (stop : InputFault) → StopsAtPolicy f f' name stop → due ≡ status_of stop
         → PolicyLeads f name On due ⊎ (due ≡ 5)
     stopped_policy S.FileFailed stops at = absurd (calm stops.rose)
     stopped_policy S.FileTooLarge stops at =
@@ -124,7 +124,7 @@ module _ (f f' : FilesSeen) (specified : IsSpecified f) (calm : ¬ Rose f.faults
     abbrev Leads : Type 0
     Leads = AskLeads f names On due ⊎ (due ≡ 5)
 
-    ask_stopped : (stop : Stop) → StopsAtPolicy f f' names.policy stop → due ≡ status_of stop → Leads
+    ask_stopped : (stop : InputFault) → StopsAtPolicy f f' names.policy stop → due ≡ status_of stop → Leads
     ask_stopped stop stops at =
         stopped_policy names.policy (λ bytes next. KeysLead f names.keys On next) due stop stops at
 
@@ -137,7 +137,7 @@ module _ (f f' : FilesSeen) (specified : IsSpecified f) (calm : ¬ Rose f.faults
       tried_keys lead =
           passed_policy bytes policy (subst (λ (k : Option (List ℕ)). KeysLead f k On due) (sym named) lead)
 
-      stopped_keys : (stop : Stop) → StopsAtKeys f f' (names.policy ∷ []) name stop → due ≡ status_of stop → Leads
+      stopped_keys : (stop : InputFault) → StopsAtKeys f f' (names.policy ∷ []) name stop → due ≡ status_of stop → Leads
       stopped_keys S.FileFailed stops at = absurd (calm stops.rose)
       stopped_keys S.FileTooLarge stops at =
           let much = held_too_much f name specified stops.1 in tried_keys (TooLarge much.0 much.1 at)
@@ -149,7 +149,7 @@ module _ (f f' : FilesSeen) (specified : IsSpecified f) (calm : ¬ Rose f.faults
       stopped_keys (S.Policy n fault) stops at = absurd stops
       stopped_keys (S.Limit n word count) stops at = absurd stops
 
-    keys_stopped : (stop : Stop) → AreKeysStopped f f' names stop → due ≡ status_of stop → Leads
+    keys_stopped : (stop : InputFault) → AreKeysStopped f f' names stop → due ≡ status_of stop → Leads
     keys_stopped stop k at = stopped_keys k.name k.bytes k.named k.policy stop k.stops at
 
     passed_keys : (name : Option (List ℕ)) (keys : KeyFile) → AreKeys f name keys → On due → KeysLead f name On due
@@ -200,7 +200,7 @@ module _ (f f' : FilesSeen) (specified : IsSpecified f) (calm : ¬ Rose f.faults
         let much = held_too_much f names.reply specified large in
         passed_script session values query (TooLarge much.0 much.1 at)
 
-    pub check_leads : (ending : Ending) → CheckCause f f' names ending → due ≡ status_of_ending ending
+    pub check_leads : (ending : CheckEnding) → CheckCause f f' names ending → due ≡ status_of_ending ending
         → CheckLeads f names due ⊎ (due ≡ 5)
     check_leads (Stopped source S.FileFailed) cause at = absurd (calm cause.1.rose)
     check_leads (Stopped source S.FileTooLarge) cause at = inl (too_large source at cause.0 cause.2)
@@ -260,7 +260,7 @@ module _ (f f' : FilesSeen) (specified : IsSpecified f) (calm : ¬ Rose f.faults
         Passed bytes (held f names.policy bytes specified policy.content)
         (policy.loadable, Passed script (held f names.script script specified content) leads)
 
-    stopped_script : (stop : Stop) → IsScriptStopped f f' names stop → due ≡ status_of stop
+    stopped_script : (stop : InputFault) → IsScriptStopped f f' names stop → due ≡ status_of stop
         → TranscriptLeads f names due ⊎ (due ≡ 5)
     stopped_script S.FileFailed c at = absurd (calm c.stops.rose)
     stopped_script S.FileTooLarge c at =
@@ -273,7 +273,7 @@ module _ (f f' : FilesSeen) (specified : IsSpecified f) (calm : ¬ Rose f.faults
     stopped_script (S.Limit n word count) c at = absurd c.stops
     stopped_script (S.KeyLine n) c at = absurd c.stops
 
-    stopped_replies : (stop : Stop) → AreRepliesStopped f f' names stop → due ≡ status_of stop
+    stopped_replies : (stop : InputFault) → AreRepliesStopped f f' names stop → due ≡ status_of stop
         → TranscriptLeads f names due ⊎ (due ≡ 5)
     stopped_replies S.FileFailed c at = absurd (calm c.stops.rose)
     stopped_replies S.FileTooLarge c at =

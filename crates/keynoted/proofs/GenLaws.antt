@@ -24,7 +24,7 @@ gen_printed numbers m s s' status is low printed =
     let named : slice_get generated_values m.level ≡ Some name = slice_get-get_or generated_values m.level [] low in
     inl (
       gen_line numbers.count name m,
-      record { measured = m; is_measured = is; name = name; named = named; told = refl },
+      record { measured = m; is_measured = is; name = name; named = named; exact = refl },
       printed name named,
     )
 

@@ -12,7 +12,7 @@ use Rattle.kn_session.specs.Sessions.{Session}
 use Rattle.kn_history.specs.declared.update.Update.{Update}
 use Rattle.kn_history.specs.History.{loaded_history}
 use Rattle.kn_history.specs.Loading.{IsLoadable}
-use Rattle.kn_play.specs.Meaning.{Means, OneQueryOfScript}
+use Rattle.kn_play.specs.LastQueries.{Means, OneQueryOfScript}
 use Rattle.kn_words.specs.Names.{AskNames, CheckNames, VerifyNames}
 use Rattle.keynoted.specs.Calling.{Holds, HoldsWithin, HoldsTooMuch, FileCallsFor, TooLarge, Failed, Passed, KeysLead}
 use Rattle.keynoted.specs.Calling.{AskLeads, IsTextOfProof, ReplyLeads, MeansNothing, ScriptLeads, CheckLeads, LogLeads}

@@ -4,7 +4,7 @@ use Rattle.kn_outside.specs.Seen.{LinkSeen}
 use Rattle.kn_workers.specs.Connections.{ServedSeen}
 use Rattle.kn_workers.specs.Doors.{DoorSeen}
 use Rattle.kn_follow.specs.Laws.{OneEnding}
-use Rattle.kn_play.specs.Meaning.{OneQueryOfScript}
+use Rattle.kn_play.specs.LastQueries.{OneQueryOfScript}
 use Rattle.kn_transcript.specs.Laws.{OneVerdict}
 use Rattle.kn_words.specs.Commands.{IsNoCommand}
 use Rattle.keynoted.specs.Outcomes.{OutsideSeen, Outcome, IsOutcome, IsEnded, IsPrintedOrCut, status_of, line_of}

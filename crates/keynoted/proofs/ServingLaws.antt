@@ -7,7 +7,7 @@ use Rattle.kn_files.specs.Pieces.{pieces_of}
 use Rattle.kn_auth.specs.declared.key_file.KeyFile.{KeyFile}
 use Rattle.kn_history.specs.History.{loaded_history}
 use Rattle.kn_inputs.specs.Held.{IsPolicy, AreKeys}
-use Rattle.kn_inputs.specs.Inputs.{grounds_of}
+use Rattle.kn_inputs.specs.Inputs.{config_of_keys}
 use Rattle.kn_inputs.proofs.Files.{asked_both}
 use Rattle.kn_inputs.proofs.Stopped.{keys_there}
 use Rattle.kn_words.specs.Orders.{Order}
@@ -25,7 +25,7 @@ module _ {C R : Type 0} (door : R → DoorSeen (ServedSeen C)) (link : C → Lin
     (before : HasAsked (order.files.policy ∷ []) f mid) (asked : HasAsked (option_to_list order.files.keys) mid f')
     (known : AreKeys mid order.files.keys keys) where
   pub served_there : (ending : AddressEnding)
-      → ServesOver door link (grounds_of keys) (loaded_history (pieces_of bytes)) n n' (binding_of order) ending
+      → ServesOver door link (config_of_keys keys) (loaded_history (pieces_of bytes)) n n' (binding_of order) ending
       → ServeCause door link f f' n n' order (Ended ending)
   served_there ending serves = record {
     asked = asked_both (order.files.policy ∷ []) (option_to_list order.files.keys) f mid f' before asked;

@@ -15,7 +15,7 @@ use Rattle.kn_history.specs.History.{loaded_history}
 use Rattle.kn_history.specs.Loading.{IsLoadable}
 use Rattle.kn_meaning.specs.Proofs.{IsProof}
 use Rattle.kn_daemon.specs.Daemon.{equations_of}
-use Rattle.kn_play.specs.Meaning.{Means}
+use Rattle.kn_play.specs.LastQueries.{Means}
 use Rattle.kn_verify.specs.Verdicts.{IsReplyTo}
 use Rattle.kn_serve.specs.Serving.{IsOrderly, IsFaultless}
 use Rattle.kn_transcript.specs.Accepted.{IsAcceptedTranscript}

@@ -14,7 +14,7 @@ use Rattle.kn_endings.specs.FollowEndings.{status_of_follow, line_of_follow}
 use Rattle.keynoted.specs.ServeEndings.{status_of_serve, line_of_serve}
 use Rattle.kn_endings.specs.VerifyEndings.{status_of_verify, line_of_verify}
 use Rattle.kn_endings.specs.declared.ask_ending.AskEnding.{AskEnding}
-use Rattle.kn_endings.specs.declared.ending.Ending.{Ending}
+use Rattle.kn_endings.specs.declared.check_ending.CheckEnding.{CheckEnding}
 use Rattle.kn_endings.specs.declared.follow_ending.FollowEnding.{FollowEnding}
 use Rattle.keynoted.specs.declared.serve_ending.ServeEnding.{ServeEnding}
 use Rattle.kn_endings.specs.declared.verify_ending.VerifyEnding.{VerifyEnding}
@@ -41,7 +41,7 @@ pub data Outcome : Type 0 where
   WordsLackMemory : Outcome
   AskEnded : AskNames → AskEnding → Outcome
   ServeEnded : Order → ServeEnding → Outcome
-  CheckEnded : CheckNames → Ending → Outcome
+  CheckEnded : CheckNames → CheckEnding → Outcome
   FollowEnded : List ℕ → FollowEnding → Outcome
   VerifyEnded : VerifyNames → VerifyEnding → Outcome
   GenEnded : GenNumbers → Option (List ℕ) → Outcome

@@ -1,7 +1,7 @@
 -- How `serve` ended: its status, and the line that tells it (keynoted's own).
 use Rattle.std.specs.Prelude.{ℕ, List, [], ◌++◌, codes, decimal, unwrap_or}
 use Rattle.kn_words.specs.Orders.{Order}
-use Rattle.kn_inputs.specs.Stops.{status_of, stop_line}
+use Rattle.kn_inputs.specs.InputFaults.{status_of, input_fault_line}
 use Rattle.kn_workers.specs.declared.address.AddressEnding.{AddressEnding}
 use Rattle.kn_workers.specs.declared.address.AddressEnding.TheVariants.{BindMemory, Unbound, WorkMemory, DoorFailed}
 use Rattle.kn_workers.specs.declared.address.AddressEnding.TheVariants.{Served}
@@ -35,6 +35,6 @@ line_of_address (Served finished version) = served_line finished version
 
 -- the line that is due
 abbrev pub line_of_serve : Order → ServeEnding → List ℕ
-line_of_serve order (PolicyStopped stop) = stop_line order.files.policy stop
-line_of_serve order (KeysStopped stop) = stop_line (unwrap_or order.files.keys []) stop
+line_of_serve order (PolicyStopped stop) = input_fault_line order.files.policy stop
+line_of_serve order (KeysStopped stop) = input_fault_line (unwrap_or order.files.keys []) stop
 line_of_serve order (Ended ending) = line_of_address ending

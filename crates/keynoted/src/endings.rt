@@ -1,6 +1,6 @@
 //! How each command ends: with the status and the line of its ending, or with 9 where the line can't be written.
 ghost use Rattle.std.specs.Prelude.{[]};
-ghost use Rattle.kn_inputs.specs.Stops.{stop_line, status_of};
+ghost use Rattle.kn_inputs.specs.InputFaults.{input_fault_line, status_of};
 ghost use Rattle.kn_endings.specs.AskEndings.{line_of_ask, status_of_ask};
 ghost use Rattle.kn_endings.specs.CheckEndings.{line_of_ending, status_of_ending};
 ghost use Rattle.kn_endings.specs.FollowEndings.{line_of_follow, status_of_follow};
@@ -11,16 +11,16 @@ ghost use Rattle.keynoted.specs.ServeEndings.{line_of_serve, status_of_serve};
 use crate::serve_ending::ServeEnding;
 use crate::serve_line::print_serve;
 use kn_endings::{
-    AskEnding, Ending, FollowEnding, VerifyEnding, print_ask, print_ending, print_follow,
+    AskEnding, CheckEnding, FollowEnding, VerifyEnding, print_ask, print_check, print_follow,
     print_line, print_verify,
 };
-use kn_inputs::Stop;
+use kn_inputs::InputFault;
 use kn_outside::{Failed, Sink};
 use kn_words::{AskFiles, CheckFiles, Service, VerifyFiles};
 
 /// Ends with what stopped the program.
-pub(crate) fn end<O: Sink>(out: &mut O, stop: Stop) -> u8
-    ensures { IsPrintedOrCut (stop_line [] stop) (status_of stop) (O.seen out.old) (O.seen out.new) result }
+pub(crate) fn end<O: Sink>(out: &mut O, stop: InputFault) -> u8
+    ensures { IsPrintedOrCut (input_fault_line [] stop) (status_of stop) (O.seen out.old) (O.seen out.new) result }
 {
     match print_line(out, stop, b"") {
         Ok(()) => stop.status(),
@@ -73,11 +73,11 @@ pub(crate) fn end_verify<O: Sink>(out: &mut O, ending: VerifyEnding, names: &Ver
 }
 
 /// Ends with how a check ended.
-pub(crate) fn end_check<O: Sink>(out: &mut O, ending: Ending, names: &CheckFiles<'_>) -> u8
+pub(crate) fn end_check<O: Sink>(out: &mut O, ending: CheckEnding, names: &CheckFiles<'_>) -> u8
     ensures { IsPrintedOrCut (line_of_ending names.now ending) (status_of_ending ending)
         (O.seen out.old) (O.seen out.new) result }
 {
-    match print_ending(out, &ending, names) {
+    match print_check(out, &ending, names) {
         Ok(()) => ending.status(),
         Err(Failed) => 9,
     }

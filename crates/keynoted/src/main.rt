@@ -11,7 +11,7 @@ mod words;
 
 use crate::idle::{IdleFault, idle_timeout};
 use kn_base::NoMemory;
-use kn_inputs::Stop;
+use kn_inputs::InputFault;
 use kn_outside::Passing;
 use kn_real::{RealFiles, StdLink, StdOut};
 use kn_tcp::TcpNet;
@@ -45,7 +45,7 @@ fn main(rt: HostRuntime) -> ExitCode {
             &mut out,
             &Passing,
         ),
-        Err(NoMemory) => endings::end(&mut out, Stop::Memory),
+        Err(NoMemory) => endings::end(&mut out, InputFault::Memory),
     };
     ExitCode::from(status)
 }

@@ -11,9 +11,9 @@ use kn_base::{NoMemory, Octets};
 use kn_commands::{ask, check, follow, generate, verify};
 use kn_endings::print_gen;
 use kn_follow::laws::one_ending;
-use kn_inputs::Stop;
+use kn_inputs::InputFault;
 use kn_outside::{Failed, Files, Gate, Link, Sink};
-use kn_play::laws::one_query_is_meant;
+use kn_play::laws::last_query_is_one;
 use kn_transcript::laws::one_verdict;
 use kn_words::{
     GenNumbers, ask_files, asks_to_serve, check_files, gen_numbers, log_file, verify_files,
@@ -32,7 +32,7 @@ fn run_gen<R: Wait, O: Sink>(rt: &R, alloc: Global, numbers: GenNumbers, out: &m
 {
     let measured = match generate(rt, alloc, numbers) {
         Ok(measured) => measured,
-        Err(NoMemory) => return end(out, Stop::Memory),
+        Err(NoMemory) => return end(out, InputFault::Memory),
     };
     match print_gen(out, numbers.count, measured) {
         Ok(()) => 0,
@@ -83,7 +83,7 @@ where
             let ending = check(rt, alloc, &names, files);
             end_check(out, ending, &names)
         }
-        None => end(out, Stop::Words),
+        None => end(out, InputFault::Words),
     }
 }
 
@@ -155,7 +155,7 @@ where
         (record { files = F.seen files.new; net = N.seen net.new; link = L.seen own.new; output = O.seen out.new })
         result }
 {
-    one_query_is_meant();
+    last_query_is_one();
     one_ending();
     one_verdict();
     dispatch(rt, alloc, words, files, net, own, out, gate)

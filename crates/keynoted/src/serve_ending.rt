@@ -1,16 +1,16 @@
 //! How `serve` ends.
 ghost use Rattle.std.specs.Prelude.{◌≡◌};
 
-use kn_inputs::Stop;
+use kn_inputs::InputFault;
 use kn_workers::AddressEnding;
 
 /// Why `serve` ends.
 #[derive(Clone, Copy, PartialEq, Eq)]
 pub(crate) enum ServeEnding {
     /// The policy file could not be read or loaded.
-    PolicyStopped(Stop),
+    PolicyStopped(InputFault),
     /// The key file could not be read.
-    KeysStopped(Stop),
+    KeysStopped(InputFault),
     /// The address was served so.
     Ended(AddressEnding),
 }

@@ -12,7 +12,7 @@ ghost use Rattle.keynoted.specs.Serving.{ServeCause};
 use crate::endings::{end, end_serve};
 use crate::serve_ending::ServeEnding;
 use kn_base::{NoMemory, Octets};
-use kn_inputs::{Stop, keys_of, read_file};
+use kn_inputs::{InputFault, keys_of, read_file};
 use kn_load::load_file;
 use kn_outside::{Files, Gate, Sink};
 use kn_registry::{Pass, Registry};
@@ -44,16 +44,16 @@ where
 {
     let texts = match texts_of(alloc, words) {
         Ok(Some(texts)) => texts,
-        Ok(None) => return end(out, Stop::Words),
-        Err(NoMemory) => return end(out, Stop::Memory),
+        Ok(None) => return end(out, InputFault::Words),
+        Err(NoMemory) => return end(out, InputFault::Memory),
     };
     match service_of(alloc, texts.as_slice()) {
         Ok(Some(service)) => {
             let ending = serve(rt, alloc, &service, files, net, gate);
             end_serve(out, ending, &service)
         }
-        Ok(None) => end(out, Stop::Words),
-        Err(NoMemory) => end(out, Stop::Memory),
+        Ok(None) => end(out, InputFault::Words),
+        Err(NoMemory) => end(out, InputFault::Memory),
     }
 }
 
@@ -87,7 +87,7 @@ where
         Ok((registry, root)) => {
             serve_loaded(rt, alloc, &registry, root, service, files, net, gate)
         }
-        Err(fault) => ServeEnding::PolicyStopped(Stop::from(fault)),
+        Err(fault) => ServeEnding::PolicyStopped(InputFault::from(fault)),
     }
 }
 

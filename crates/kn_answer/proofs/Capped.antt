@@ -10,8 +10,8 @@ use Rattle.kn_meaning.specs.Equations.{Part, statement_of}
 use Rattle.kn_answer.specs.Numbering.{IsNumber}
 use Rattle.kn_answer.specs.Removed.{live_parts}
 use Rattle.kn_answer.specs.Based.{capped_values, ceilings_of, condition_values}
-use Rattle.kn_answer.proofs.Basing.{length-kept}
-use Rattle.kn_answer.proofs.Bounded.{field_value-within}
+use Rattle.kn_answer.proofs.BaseSystems.{length-kept}
+use Rattle.kn_answer.proofs.ConditionBounds.{field_value-within}
 
 pub length-ceilings : (asked : Asked) (parts : List Part) (live : List Bool) → length live ≡ length parts
     → length (ceilings_of asked parts live) ≡ length parts

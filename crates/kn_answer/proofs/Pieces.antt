@@ -21,8 +21,8 @@ use Rattle.kn_system.specs.Form.{leaf_count}
 use Rattle.kn_system.specs.Equations.{node_total}
 use Rattle.kn_answer.specs.Numbering.{NamedPiece, Leaf, Gate, formula_pieces, licensees_pieces, ArePiecesOf}
 use Rattle.kn_answer.specs.Based.{AreBaseRows, BasesHaveNodes}
-use Rattle.kn_answer.proofs.Folded.{formula_nodes-Who, formula_names-Who, formula_pieces-Who, IsGate, IsGate-All}
-use Rattle.kn_answer.proofs.Folded.{IsGate-Any, IsGate-Threshold}
+use Rattle.kn_answer.proofs.FormulaFolds.{formula_nodes-Who, formula_names-Who, formula_pieces-Who, IsGate, IsGate-All}
+use Rattle.kn_answer.proofs.FormulaFolds.{IsGate-Any, IsGate-Threshold}
 
 -- how many principals stand in pieces
 abbrev pub leaves : List NamedPiece → ℕ

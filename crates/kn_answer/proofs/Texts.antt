@@ -10,7 +10,7 @@ use Rattle.kn_trees.specs.declared.formula.Formula.{Formula}
 use Rattle.kn_trees.specs.Formulas.{IsReadable}
 use Rattle.kn_fields.specs.declared.fault.ReadFault.{ReadFault}
 use Rattle.kn_assert.specs.Reading.{assertion_of, reading_of, IsSound}
-use Rattle.kn_assert.specs.Spelled.{IsReading}
+use Rattle.kn_assert.specs.AssertionTexts.{IsReading}
 use Rattle.kn_assert.proofs.Answered.{ReadingTold}
 use Rattle.kn_meaning.specs.Equations.{Part}
 use Rattle.kn_answer.specs.Sizes.{HaveTexts, IsReadablePart, size_of, total_size}

@@ -12,12 +12,7 @@ pub record Kept : Type 0 where
 
 -- one that is no more there has the lowest compliance value
 abbrev pub capped_statement : Kept → Statement
-capped_statement k = record {
-  id = k.statement.id;
-  authorizer = k.statement.authorizer;
-  ceiling = if k.is_live then k.statement.ceiling else 0;
-  licensees = k.statement.licensees;
-}
+capped_statement k = record k.statement { ceiling = if k.is_live then k.statement.ceiling else 0 }
 
 abbrev pub capped_statements : List Kept → List Statement
 capped_statements [] = []

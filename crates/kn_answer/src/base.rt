@@ -128,6 +128,7 @@ impl Base {
             mut live,
             scratch,
         } = self;
+        // The contract of `levels` says that the system is well formed, so the ceiling 0 is below its levels.
         let _levels = numbered.system.levels();
         numbered.add_row(alloc, part.assertion, 0)?;
         live.add(true)?;
@@ -235,6 +236,7 @@ impl Base {
     {
         let requesters = self.numbered.numbers(alloc, query.requesters())?;
         let system = &self.numbered.system;
+        // The contract of `levels` says that the system is well formed.
         let _levels = system.levels();
         let levels = query.values().len();
         self.scratch
@@ -286,6 +288,7 @@ impl Base {
     {
         let principals = self.principals();
         let rows = self.rows();
+        // The contract of `levels` says that the system is well formed, so it has a principal.
         let _levels = self.numbered.system.levels();
         let mut base = self.extend_all(alloc, others)?;
         let all = WithOthers::of(assertions, rows, others);

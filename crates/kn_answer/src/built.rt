@@ -49,6 +49,7 @@ pub fn build(alloc: Global, list: &List<Part<'_>>, query: &Query<'_>) -> Result<
     kn_assert::laws::readings_are_sound();
     let ids = ids_of(alloc, list)?;
     let Numbered { names, system } = numbered_query(alloc, list, query)?;
+    // The contract of `levels` says that the system is well formed.
     let _levels = system.levels();
     Ok(Built { names, system, ids })
 }
@@ -92,7 +93,7 @@ impl Built {
     }
 
     // A row by its numbers.
-    fn located(&self, named: &NamedRow) -> Row
+    fn numbered_row(&self, named: &NamedRow) -> Row
         ensures { IsLocated self.now named.now result }
     {
         Row {
@@ -147,7 +148,7 @@ pub fn locate(alloc: Global, built: &Built, reply: &ReadReply) -> Result<Proof, 
 {
     let mut rows = List::new(alloc);
     for row in reply.rows.as_slice() {
-        match rows.push(built.located(row)) {
+        match rows.push(built.numbered_row(row)) {
             Ok(()) => {}
             Err(_) => return Err(NoMemory),
         }

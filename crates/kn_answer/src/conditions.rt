@@ -48,6 +48,7 @@ impl<'c, 'q, A: Assertions> Evaluated<'c, 'q, A> {
     pub fn of(alloc: Global, query: &'c Query<'q>, assertions: &'c A) -> Evaluated<'c, 'q, A>
         ensures { result ≡ condition_values query.now (A.parts assertions.now) }
     {
+        // The contract of `len` says that there are two compliance values at least.
         let _count = query.values().len();
         Evaluated {
             alloc,

@@ -1,5 +1,5 @@
 //! Answers to queries: assertions and a query become a system over numbered principals, which is settled, and its proof
-//! is told by names. And back: a proof that a reply tells by names is found again in a system.
+//! is given by names. And back: a proof that a reply has by names is found again in a system.
 #![tactic(auto)]
 
 mod answers;

@@ -9,7 +9,7 @@ use Rattle.std.proofs.lemmas.List.{length-append, length-map, length-drop, lengt
 use Rattle.std.specs.Result.{result_err, result_ok}
 use Rattle.kn_base.specs.declared.limits.TheConstants.{ASSERTION_BYTES, PRINCIPAL_BYTES}
 use Rattle.kn_env.specs.declared.constant.Constant.{Constant as Set}
-use Rattle.kn_lex.specs.Cutting.{Seen, Cuts}
+use Rattle.kn_lex.specs.Cutting.{TokenView, Cuts}
 use Rattle.kn_fields.specs.Fields.{Field, fields_of, field_with, signed_to}
 use Rattle.kn_fields.specs.Faults.{IsWellFielded, IsFirstFault, HasCause, constants_in}
 use Rattle.kn_fields.specs.Computed.{fields_or_fault}
@@ -17,7 +17,7 @@ use Rattle.kn_fields.specs.Numbers.{fault_place}
 use Rattle.kn_fields.specs.declared.fault.ReadFault.{ReadFault}
 use Rattle.kn_fields.specs.declared.fault.ReadFault.TheVariants.{TooLong, NoMemory}
 use Rattle.kn_trees.specs.declared.assertion.Assertion.{Assertion}
-use Rattle.kn_trees.specs.Levels.{program_depth}
+use Rattle.kn_trees.specs.Depths.{program_depth}
 use Rattle.kn_program.specs.Conditions.{IsConditions}
 use Rattle.kn_program.proofs.Depths.{found_shallow}
 use Rattle.kn_program.proofs.Stated.{program_is_found}
@@ -25,7 +25,7 @@ use Rattle.kn_principal.specs.Principals.{lower_case, is_colon, with_algorithm, 
 use Rattle.kn_assert.specs.Parts.{Gives, text_by, normal_in, principal_of}
 use Rattle.kn_assert.specs.Reading.{and_then, nothing, stated_by, assembled, reading_with, reading_of, assertion_of}
 use Rattle.kn_assert.specs.Reading.{fault_of}
-use Rattle.kn_assert.specs.Spelled.{IsShallow, IsReading, IsFirstReadFault}
+use Rattle.kn_assert.specs.AssertionTexts.{IsShallow, IsReading, IsFirstReadFault}
 
 -- a normal form is as long as its text
 
@@ -75,7 +75,7 @@ normal_sized (Some text) a e = by (length text == 0) (nat_lt 4096 (length text))
         let size : length a ≡ length text = ap length (sym same) ∙ normal_length text in
         (grind (arith, nat_tests), grind (arith, nat_tests))
 
-pub principal_sized : (constants : List Set) (token : Seen) (a : List ℕ) → principal_of constants token ≡ Some a
+pub principal_sized : (constants : List Set) (token : TokenView) (a : List ℕ) → principal_of constants token ≡ Some a
     → (0 < length a) × (length a ≤ PRINCIPAL_BYTES)
 unfolding principal_of
 principal_sized constants token a e = normal_sized (text_by constants token.sort token.text) a e
@@ -96,8 +96,8 @@ well_short text well = by (nat_lt ASSERTION_BYTES (length text)) refl
     by true e = absurd (well (TooLong (length text)) (inl ((Decides-ltb ASSERTION_BYTES (length text)).0 e, refl)))
 
 -- what is read of the text with these tokens and constants
-pub reading_here : (text : List ℕ) (tokens : List Seen) {constants : List Set} {signed : ℕ}
-    → ((ts : List Seen) → (fields_or_fault text ≡ Ok ts) ↔ (Cuts text ts × IsWellFielded text)) → Cuts text tokens
+pub reading_here : (text : List ℕ) (tokens : List TokenView) {constants : List Set} {signed : ℕ}
+    → ((ts : List TokenView) → (fields_or_fault text ≡ Ok ts) ↔ (Cuts text ts × IsWellFielded text)) → Cuts text tokens
     → IsWellFielded text
     → constants ≡ constants_in (field_with 6 tokens) → signed ≡ signed_to text tokens
     → reading_of text ≡ and_then (stated_by constants nothing (fields_of tokens))

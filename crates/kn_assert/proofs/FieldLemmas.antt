@@ -5,7 +5,7 @@ use Rattle.std.specs.Prelude.{slice_get}
 use Rattle.std.proofs.lemmas.Option.{slice_get_cases}
 use Rattle.std.proofs.lemmas.List.{drop_all}
 use Rattle.kn_env.specs.declared.constant.Constant.{Constant as Set}
-use Rattle.kn_lex.specs.Cutting.{Seen}
+use Rattle.kn_lex.specs.Cutting.{TokenView}
 use Rattle.kn_fields.specs.Fields.{fields_of, between, AreHeadings}
 use Rattle.kn_fields.specs.declared.heading.Heading.{Heading}
 use Rattle.kn_fields.specs.declared.fault.ReadFault.{ReadFault}
@@ -18,17 +18,17 @@ use Rattle.kn_assert.specs.declared.stated.Stated.{Stated}
 
 -- the one token
 
-not_one : (tokens : List Seen) → (length tokens ≡ 1 → ⊥) → None ≡ only_of tokens
+not_one : (tokens : List TokenView) → (length tokens ≡ 1 → ⊥) → None ≡ only_of tokens
 not_one [] h = refl
 not_one (t ∷ []) h = absurd (h refl)
 not_one (t ∷ u ∷ ts) h = refl
 
-pub only_none : (xs : List Seen) (i to : ℕ) → i ≤ to → to ≤ length xs → (to ≡ i + 1 → ⊥)
+pub only_none : (xs : List TokenView) (i to : ℕ) → i ≤ to → to ≤ length xs → (to ≡ i + 1 → ⊥)
     → None ≡ only_of (between i to xs)
-only_none xs i to le fits h =
-    not_one (between i to xs) (λ e. h (omega (arith, between_length xs i to le fits, e, le)))
+only_none xs i to le fits h = not_one (between i to xs) (λ e. h (omega (arith, between_length xs i to le fits, e, le)))
 
-pub only_some : (xs : List Seen) (i to : ℕ) → to ≡ i + 1 → to ≤ length xs → slice_get xs i ≡ only_of (between i to xs)
+pub only_some : (xs : List TokenView) (i to : ℕ) → to ≡ i + 1 → to ≤ length xs
+    → slice_get xs i ≡ only_of (between i to xs)
 only_some xs i to e fits =
     elim (slice_get_cases xs i).1 [
       | inl h ↦
@@ -39,21 +39,23 @@ only_some xs i to e fits =
 -- heading by heading
 
 -- what is left decides, where this is stated up to a place among the fields
-abbrev pub IsLeft : List Set → List Seen → Stated → ℕ → Type 0
+abbrev pub IsLeft : List Set → List TokenView → Stated → ℕ → Type 0
 IsLeft constants xs s i = stated_by constants nothing (fields_of xs) ≡ stated_by constants s (drop i (fields_of xs))
 
 -- what the field of this heading states
-abbrev stated_here : List Set → List Seen → Stated → Heading → Result Stated ReadFault
+abbrev stated_here : List Set → List TokenView → Stated → Heading → Result Stated ReadFault
 stated_here constants xs s h = with_field constants s h.number (between (h.part.label + 1) h.part.end xs)
 
 -- the field of the heading here comes first of those that are left
-stated_next : (constants : List Set) (s : Stated) (xs : List Seen) (h : Heading) (i : ℕ) → Told xs (fields_of xs) h i
+stated_next : (constants : List Set) (s : Stated) (xs : List TokenView) (h : Heading) (i : ℕ)
+    → Told xs (fields_of xs) h i
     → stated_by constants s (drop i (fields_of xs))
     ≡ and_then (stated_here constants xs s h) (λ next. stated_by constants next (drop (i + 1) (fields_of xs)))
 unfolding stated_by
-stated_next constants s xs h i t = rw (drop_here (fields_of xs) i t.field t.there, t.told.number, t.told.part.own) refl
+stated_next constants s xs h i t =
+    rw (drop_here (fields_of xs) i t.field t.there, t.exact.number, t.exact.part.own) refl
 
-pub left_next : (constants : List Set) (xs : List Seen) (s next : Stated) (h : Heading) (i : ℕ)
+pub left_next : (constants : List Set) (xs : List TokenView) (s next : Stated) (h : Heading) (i : ℕ)
     → IsLeft constants xs s i → Told xs (fields_of xs) h i
     → stated_here constants xs s h ≡ Ok next → IsLeft constants xs next (i + 1)
 left_next constants xs s next h i so t read =
@@ -68,13 +70,13 @@ pub fault_passed : {X Y : Type 0} (fault : ReadFault) (read : Result X ReadFault
 fault_passed fault read go whole is (inl none) = inl none
 fault_passed fault read go whole is (inr e) = inr (is ∙ ap (λ r. and_then r go) e)
 
-pub left_fault : (constants : List Set) (xs : List Seen) (s : Stated) (fault : ReadFault) (h : Heading) (i : ℕ)
+pub left_fault : (constants : List Set) (xs : List TokenView) (s : Stated) (fault : ReadFault) (h : Heading) (i : ℕ)
     → IsLeft constants xs s i → Told xs (fields_of xs) h i
     → (fault ≡ NoMemory) ⊎ (stated_here constants xs s h ≡ Err fault) → (fault ≡ NoMemory)
     ⊎ (stated_by constants nothing (fields_of xs) ≡ Err fault)
 left_fault constants xs s fault h i so t here = fault_passed fault _ _ _ (so ∙ stated_next constants s xs h i t) here
 
-pub left_last : (constants : List Set) (xs : List Seen) (hs : List Heading) (s : Stated) (i : ℕ)
+pub left_last : (constants : List Set) (xs : List TokenView) (hs : List Heading) (s : Stated) (i : ℕ)
     → AreHeadings xs (fields_of xs) hs → IsLeft constants xs s i → length hs ≤ i
     → stated_by constants nothing (fields_of xs) ≡ Ok s
 unfolding stated_by

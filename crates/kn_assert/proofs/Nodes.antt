@@ -3,7 +3,7 @@ use Rattle.std.proofs.Common.{ℕ, suc, ◌+◌, ◌≤◌, Bool, not, Option, S
 use Rattle.std.specs.Prelude.{IfSome, take_while}
 use Rattle.std.specs.List.{AllByRecursion, prefix_len}
 use Rattle.std.proofs.lemmas.List.{length-take}
-use Rattle.kn_lex.specs.Cutting.{Seen, Cuts}
+use Rattle.kn_lex.specs.Cutting.{TokenView, Cuts}
 use Rattle.kn_lex.specs.TokenFacts.{IsTokenOf, StandInOrder}
 use Rattle.kn_fields.specs.Fields.{is_label, fields_of, field_with}
 use Rattle.kn_fields.specs.Faults.{constants_in}
@@ -13,7 +13,7 @@ use Rattle.kn_trees.specs.Formulas.{IsReadable, field_nodes}
 use Rattle.kn_formula.specs.Licensing.{AreLicensees}
 use Rattle.kn_formula.proofs.Readable.{stated_readable}
 use Rattle.kn_assert.specs.Reading.{IsSound}
-use Rattle.kn_assert.specs.Spelled.{IsReading}
+use Rattle.kn_assert.specs.AssertionTexts.{IsReading}
 use Rattle.kn_program.specs.Conditions.{IsConditions}
 use Rattle.kn_assert.proofs.Answered.{principal_sized, if_stated}
 use Rattle.kn_assert.proofs.Places.{TokensTold, FaultlessOrNot, tokens_each, well_faultless, each_field, one_field}
@@ -21,25 +21,26 @@ use Rattle.kn_assert.proofs.Places.{found_field, label_long}
 
 -- what the lexer's law says of tokens
 abbrev pub OrderTold : Type 0
-OrderTold = (text : List ℕ) (tokens : List Seen) → Cuts text tokens → StandInOrder 0 tokens
+OrderTold = (text : List ℕ) (tokens : List TokenView) → Cuts text tokens → StandInOrder 0 tokens
 
 -- tokens that stand in their order from a place on, and end by another one, are no more than the bytes between
-order_room : (text : List ℕ) (tokens : List Seen) (from : ℕ) → StandInOrder from tokens
+order_room : (text : List ℕ) (tokens : List TokenView) (from : ℕ) → StandInOrder from tokens
     → AllByRecursion (IsTokenOf text) tokens → from ≤ length text → from + length tokens ≤ length text
 order_room text [] from order all le = omega arith
 order_room text (token ∷ tokens) from order all le =
     omega (arith, order_room text tokens token.span.end order.2 all.1 all.0.within, order.0, order.1)
 
 -- the tokens and the bytes of one of them
-abbrev HasRoom : ℕ → ℕ → ℕ → Seen → Type 0
+abbrev HasRoom : ℕ → ℕ → ℕ → TokenView → Type 0
 HasRoom bytes before count token = before + count + length token.text ≤ bytes + 1
 
-one_later : (bytes before count : ℕ) (tokens : List Seen) → AllByRecursion (HasRoom bytes (before + 1) count) tokens
+one_later : (bytes before count : ℕ) (tokens : List TokenView)
+    → AllByRecursion (HasRoom bytes (before + 1) count) tokens
     → AllByRecursion (HasRoom bytes before (suc count)) tokens
 one_later bytes before count [] all = tt
 one_later bytes before count (token ∷ tokens) all = (omega (arith, all.0), one_later bytes before count tokens all.1)
 
-each_room : (text : List ℕ) (tokens : List Seen) (before from : ℕ) → StandInOrder from tokens
+each_room : (text : List ℕ) (tokens : List TokenView) (before from : ℕ) → StandInOrder from tokens
     → AllByRecursion (IsTokenOf text) tokens → before ≤ from → from ≤ length text
     → AllByRecursion (HasRoom (length text) before (length tokens)) tokens
 each_room text [] before from order all le within = tt
@@ -54,10 +55,10 @@ each_room text (token ∷ tokens) before from order all le within =
     )
 
 -- a field has no more tokens than the text
-front_short : (test : Seen → Bool) (tokens : List Seen) → length (take_while test tokens) ≤ length tokens
+front_short : (test : TokenView → Bool) (tokens : List TokenView) → length (take_while test tokens) ≤ length tokens
 front_short test tokens = omega (arith, length-take (prefix_len test tokens) tokens)
 
-fields_short : (n : ℕ) (tokens : List Seen) → length tokens ≤ n
+fields_short : (n : ℕ) (tokens : List TokenView) → length tokens ≤ n
     → AllByRecursion (λ field. length field.tokens ≤ n) (fields_of tokens)
 fields_short n =
     each_field (λ tokens. length tokens ≤ n) (λ field. length field.tokens ≤ n) (λ token tokens le. omega arith)

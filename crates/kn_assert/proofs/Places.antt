@@ -9,19 +9,19 @@ use Rattle.std.proofs.lemmas.List.{length-map, length-drop, length-take-le}
 use Rattle.std.proofs.lemmas.List.Elements.{recursion_from_All}
 use Rattle.std.proofs.lemmas.Option.{slice_get_within}
 use Rattle.std.proofs.lemmas.Slice.Eq.{bytes_eq-Decides}
-use Rattle.kn_lex.specs.Cutting.{Seen, Cuts, Reaches, spent, place_after, start}
+use Rattle.kn_lex.specs.Cutting.{TokenView, Cuts, Reaches, spent, place_after, start}
 use Rattle.kn_lex.specs.Faults.{IsFaultless, IsFirstLexicalFault, HasFault as HasLexicalFault, Shows as ShowsLexical}
 use Rattle.kn_lex.specs.Faults.{fault_place as lexical_place}
 use Rattle.kn_lex.specs.TokenFacts.{IsTokenOf}
 use Rattle.kn_lex.specs.declared.fault.LexFault.{LexFault}
 use Rattle.kn_lex.specs.declared.fault.LexFault.TheVariants as L
-use Rattle.kn_lex.specs.declared.piece.Piece.{Piece}
-use Rattle.kn_lex.specs.declared.piece.Place.{Place}
+use Rattle.kn_lex.specs.declared.lexeme.Lexeme.{Lexeme}
+use Rattle.kn_lex.specs.declared.lexeme.Place.{Place}
 use Rattle.kn_fields.specs.Fields.{is_label, field_number, field_of, is_this, is_label_of, Field, fields_of, field_with}
 use Rattle.kn_fields.specs.Numbers.{fault_place}
 use Rattle.kn_fields.specs.Faults.{HasFirst, DepartsAt, Shows, of_lexical, HasFault, IsWellFielded}
 use Rattle.kn_env.specs.declared.constant.Constant.{Constant as Set}
-use Rattle.kn_assert.specs.Spelled.{FieldShows, IsFirstShown, IsFirstReadFault}
+use Rattle.kn_assert.specs.AssertionTexts.{FieldShows, IsFirstShown, IsFirstReadFault}
 use Rattle.kn_fields.specs.declared.fault.ReadFault.{ReadFault}
 use Rattle.kn_fields.specs.declared.fault.ReadFault.TheVariants.{BadField, FieldTwice, FieldOrder, NoAuthorizer}
 use Rattle.kn_fields.specs.declared.fault.ReadFault.TheVariants.{Version, Constant, TooDeep, Syntax, Kind, Threshold}
@@ -30,7 +30,7 @@ use Rattle.kn_fields.specs.declared.fault.ReadFault.TheVariants.{Name}
 -- lexical faults
 
 -- pieces and what is left behind them are the whole text
-whole : (pieces : List (Piece × ℕ)) (place : Place) (text : List ℕ) (end : Place) (left : List ℕ)
+whole : (pieces : List (Lexeme × ℕ)) (place : Place) (text : List ℕ) (end : Place) (left : List ℕ)
     → Reaches place text pieces end left → spent pieces + length left ≡ length text
 whole [] place text end left reached = omega (arith, ap length reached.1)
 whole (p ∷ pieces) place text end left reached =
@@ -60,8 +60,8 @@ lexical_within : (text : List ℕ) (fault : LexFault) → HasLexicalFault text f
 lexical_within text fault has =
     omega (
       arith,
-      whole has.pieces start text has.place has.left has.reached,
-      shown_within has.place (spent has.pieces) has.left fault has.shown,
+      whole has.lexemes start text has.place has.left has.reached,
+      shown_within has.place (spent has.lexemes) has.left fault has.shown,
     )
 
 same_place : (fault : LexFault) → fault_place (of_lexical fault) ≡ lexical_place fault
@@ -94,15 +94,15 @@ each_front : {X : Type 0} (P : X → Type 0) (test : X → Bool) (xs : List X) �
 each_front P test xs all = each_taken P (prefix_len test xs) xs all
 
 -- the label and the tokens of a field are so
-abbrev pub HasTokens : (Seen → Type 0) → Field → Type 0
+abbrev pub HasTokens : (TokenView → Type 0) → Field → Type 0
 HasTokens P field = P field.label × AllByRecursion P field.tokens
 
 -- what holds of tokens, and of those behind each, gives what holds of each field
-pub each_field : (Q : List Seen → Type 0) (P : Field → Type 0)
-    → ((token : Seen) (tokens : List Seen) → Q (token ∷ tokens) → Q tokens)
-    → ((token : Seen) (tokens : List Seen) → Q (token ∷ tokens)
+pub each_field : (Q : List TokenView → Type 0) (P : Field → Type 0)
+    → ((token : TokenView) (tokens : List TokenView) → Q (token ∷ tokens) → Q tokens)
+    → ((token : TokenView) (tokens : List TokenView) → Q (token ∷ tokens)
     → P (record { label = token; tokens = take_while (λ other. not (is_label other)) tokens }))
-    → (tokens : List Seen) → Q tokens → AllByRecursion P (fields_of tokens)
+    → (tokens : List TokenView) → Q tokens → AllByRecursion P (fields_of tokens)
 unfolding fields_of
 each_field Q P behind field [] all = tt
 each_field Q P behind field (token ∷ tokens) all =
@@ -115,7 +115,7 @@ each_field Q P behind field (token ∷ tokens) all =
     by true rest = (field token tokens all, rest)
     by false rest = rest
 
-each_tokens : (P : Seen → Type 0) (tokens : List Seen) → AllByRecursion P tokens
+each_tokens : (P : TokenView → Type 0) (tokens : List TokenView) → AllByRecursion P tokens
     → AllByRecursion (HasTokens P) (fields_of tokens)
 each_tokens P = each_field (AllByRecursion P) (HasTokens P) (λ token tokens all. all.1)
     (λ token tokens all. (all.0, each_front P (λ other. not (is_label other)) tokens all.1))
@@ -129,22 +129,22 @@ found_each P test (y ∷ xs) x found all = by (test y) (λ e. found_each P test 
     by true rest e = let same : y ≡ x = cc in subst P same all.0
     by false rest e = rest e
 
-pub found_field : (number : ℕ) (P : Field → Type 0) (tokens : List Seen) (field : Field)
+pub found_field : (number : ℕ) (P : Field → Type 0) (tokens : List TokenView) (field : Field)
     → field_with number tokens ≡ Some field → AllByRecursion P (fields_of tokens) → P field
 unfolding field_with
 found_field number P tokens field found all =
     found_each P (λ f. is_label_of number f.label) (fields_of tokens) field found all
 
-pub one_field : (P : Seen → Type 0) (number : ℕ) (tokens : List Seen) (field : Field)
+pub one_field : (P : TokenView → Type 0) (number : ℕ) (tokens : List TokenView) (field : Field)
     → field_with number tokens ≡ Some field → AllByRecursion P tokens → HasTokens P field
 one_field P number tokens field found all =
     found_field number (HasTokens P) tokens field found (each_tokens P tokens all)
 
 -- the token stands within the text
-token_within : (text : List ℕ) (token : Seen) → IsTokenOf text token → token.span.start ≤ length text
+token_within : (text : List ℕ) (token : TokenView) → IsTokenOf text token → token.span.start ≤ length text
 token_within text token is = omega (arith, is.size, is.within)
 
-first_within : (is_bad : List Seen → Seen → Bool) (text : List ℕ) (tokens : List Seen) (at : ℕ)
+first_within : (is_bad : List TokenView → TokenView → Bool) (text : List ℕ) (tokens : List TokenView) (at : ℕ)
     → HasFirst is_bad tokens at → AllByRecursion (IsTokenOf text) tokens → at ≤ length text
 first_within is_bad text tokens at has all =
     omega (
@@ -166,13 +166,14 @@ departs_within text field at (inl has) all =
 departs_within text field at (inr has) all = omega (arith, token_within text field.label all.0, has.2)
 
 abbrev pub TokensTold : Type 0
-TokensTold = (text : List ℕ) (tokens : List Seen) → Cuts text tokens → IsFaultless text → All (IsTokenOf text) tokens
+TokensTold = (text : List ℕ) (tokens : List TokenView) → Cuts text tokens → IsFaultless text
+    → All (IsTokenOf text) tokens
 
-pub tokens_each : TokensTold → (text : List ℕ) (tokens : List Seen) → Cuts text tokens → IsFaultless text
+pub tokens_each : TokensTold → (text : List ℕ) (tokens : List TokenView) → Cuts text tokens → IsFaultless text
     → AllByRecursion (IsTokenOf text) tokens
 tokens_each told text tokens cut faultless = recursion_from_All (IsTokenOf text) tokens (told text tokens cut faultless)
 
-shown_within_text : (text : List ℕ) (tokens : List Seen) (fault : ReadFault) → Shows tokens fault
+shown_within_text : (text : List ℕ) (tokens : List TokenView) (fault : ReadFault) → Shows tokens fault
     → AllByRecursion (IsTokenOf text) tokens → fault_place fault ≤ length text
 shown_within_text text tokens (BadField at) h all = first_within _ text tokens at h all
 shown_within_text text tokens (FieldTwice at) h all = first_within _ text tokens at h all
@@ -225,7 +226,7 @@ label_length label n is =
     none : None ≡ Some n → (n ≤ 7) × (8 ≤ length label)
     none e = cc
 
-named_number : (label : Seen) (n : ℕ) → field_of label ≡ Some n → field_number label.text ≡ Some n
+named_number : (label : TokenView) (n : ℕ) → field_of label ≡ Some n → field_number label.text ≡ Some n
 unfolding field_of
 named_number label n = by (is_label label)
   where
@@ -233,7 +234,8 @@ named_number label n = by (is_label label)
     by true e = e
     by false e = absurd (cc)
 
-label_within : (text : List ℕ) (label : Seen) (n : ℕ) → IsTokenOf text label → field_of label ≡ Some n → n ≤ length text
+label_within : (text : List ℕ) (label : TokenView) (n : ℕ) → IsTokenOf text label → field_of label ≡ Some n
+    → n ≤ length text
 label_within text label n is named = let long = label_length label.text n (named_number label n named) in
     omega (arith, long.0, long.1, is.size, is.within)
 
@@ -251,7 +253,7 @@ pub number_of : (n : ℕ) (o : Option ℕ) → is_this n o ≡ true → o ≡ So
 number_of n None h = absurd (cc)
 number_of n (Some m) h = ap Some (eqb-true m n h)
 
-pub label_long : (number : ℕ) (tokens : List Seen) (field : Field) → field_with number tokens ≡ Some field
+pub label_long : (number : ℕ) (tokens : List TokenView) (field : Field) → field_with number tokens ≡ Some field
     → 8 ≤ length field.label.text
 unfolding field_with
 label_long number tokens field found =
@@ -280,7 +282,7 @@ shown_place constants field (Threshold number) =
 shown_place constants field (Name number) = one_of_four _ number (λ h. h.0) (λ h. absurd h) (λ h. h.0) (λ h. absurd h)
 shown_place constants field _ = one_of_four _ _ (λ h. absurd h) (λ h. absurd h) (λ h. absurd h) (λ h. absurd h)
 
-stated_within : (text : List ℕ) (constants : List Set) (tokens : List Seen) (fault : ReadFault)
+stated_within : (text : List ℕ) (constants : List Set) (tokens : List TokenView) (fault : ReadFault)
     → IsFirstShown constants (fields_of tokens) fault → AllByRecursion (IsTokenOf text) tokens
     → fault_place fault ≤ length text
 stated_within text constants tokens fault first all =
@@ -290,7 +292,7 @@ stated_within text constants tokens fault first all =
     (shown_place constants first.field fault first.shown)
 
 abbrev pub FaultlessOrNot : Type 0
-FaultlessOrNot = (text : List ℕ) → ((tokens : List Seen) × Cuts text tokens × IsFaultless text)
+FaultlessOrNot = (text : List ℕ) → ((tokens : List TokenView) × Cuts text tokens × IsFaultless text)
     ⊎ ((fault : LexFault) × IsFirstLexicalFault text fault)
 
 -- a text whose fields are right has no lexical fault

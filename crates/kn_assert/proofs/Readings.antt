@@ -4,18 +4,19 @@ use Rattle.std.proofs.Common.{[], ◌∷◌, ◌++◌, cond, arith, refl, sym, �
 use Rattle.std.specs.Prelude.{◌↔◌, ◌==◌, MatchOption, find}
 use Rattle.std.specs.List.{AllByRecursion}
 use Rattle.kn_env.specs.declared.constant.Constant.{Constant as Set}
-use Rattle.kn_lex.specs.Cutting.{Seen, Cuts}
+use Rattle.kn_lex.specs.Cutting.{TokenView, Cuts}
 use Rattle.kn_fields.specs.Fields.{Field, is_this, is_label_of, field_of, fields_of, field_with, signed_to}
 use Rattle.kn_fields.specs.Faults.{IsWellFielded, fault_order, HasFault, IsFirstFault, HasField, constants_in}
 use Rattle.kn_fields.specs.Computed.{fields_or_fault}
 use Rattle.kn_fields.specs.declared.fault.ReadFault.{ReadFault}
 use Rattle.kn_fields.specs.declared.fault.ReadFault.TheVariants.{NoMemory}
-use Rattle.kn_fields.proofs.Shown.{lexical_between}
+use Rattle.kn_fields.proofs.FirstFaults.{lexical_between}
 use Rattle.kn_trees.specs.declared.assertion.Assertion.{Assertion}
 use Rattle.kn_assert.specs.Reading.{authorizer_in, conditions_in, licensees_in, signature_in, and_then, nothing}
 use Rattle.kn_assert.specs.Reading.{with_field, stated_by, assembled, reading_with, reading_of}
-use Rattle.kn_assert.specs.Spelled.{Spells, IsReading, AuthorizerShows, ConditionsShows, LicenseesShows, SignatureShows}
-use Rattle.kn_assert.specs.Spelled.{FieldShows, IsFirstShown, IsFirstReadFault}
+use Rattle.kn_assert.specs.AssertionTexts.{Spells, IsReading, AuthorizerShows, ConditionsShows, LicenseesShows}
+use Rattle.kn_assert.specs.AssertionTexts.{SignatureShows}
+use Rattle.kn_assert.specs.AssertionTexts.{FieldShows, IsFirstShown, IsFirstReadFault}
 use Rattle.kn_assert.specs.declared.stated.Stated.{Stated}
 use Rattle.kn_assert.proofs.Places.{found_each, found_passes, number_of}
 use Rattle.kn_assert.proofs.Showing.{PartsTold, IsBefore, Least, Tells, IsTold, tells_value, tells_fault}
@@ -23,22 +24,22 @@ use Rattle.kn_assert.proofs.Showing.{authorizer_told, conditions_told, licensees
 
 -- what the laws of the fields say
 pub record FieldsTold : Type 0 where
-  pub tokens : (text : List ℕ) (tokens : List Seen)
+  pub tokens : (text : List ℕ) (tokens : List TokenView)
       → (fields_or_fault text ≡ Ok tokens) ↔ (Cuts text tokens × IsWellFielded text)
   pub fault : (text : List ℕ) (fault : ReadFault) → (fields_or_fault text ≡ Err fault) ↔ IsFirstFault text fault
   pub parts : PartsTold
-  pub one : (text : List ℕ) (tokens : List Seen) → Cuts text tokens → IsWellFielded text
+  pub one : (text : List ℕ) (tokens : List TokenView) → Cuts text tokens → IsWellFielded text
       → (before : List Field) (field : Field) (behind : List Field)
       → fields_of tokens ≡ before ++ field ∷ behind → (number : ℕ) → field_of field.label ≡ Some number
       → field_with number tokens ≡ Some field
-  pub authorizer : (text : List ℕ) (tokens : List Seen) → Cuts text tokens → IsWellFielded text
+  pub authorizer : (text : List ℕ) (tokens : List TokenView) → Cuts text tokens → IsWellFielded text
       → field_with 1 tokens ≡ None → ⊥
 
 -- what is stated with one field
 
 -- a field is one of the four that state something, or nothing is stated with it
 by_number : (P : Option ℕ → Type 0) (o : Option ℕ) → P (Some 1) → P (Some 3) → P (Some 5) → P (Some 7)
-    → (((constants : List Set) (s : Stated) (tokens : List Seen) → with_field constants s o tokens ≡ Ok s)
+    → (((constants : List Set) (s : Stated) (tokens : List TokenView) → with_field constants s o tokens ≡ Ok s)
     → is_this 1 o ≡ false → is_this 3 o ≡ false → is_this 5 o ≡ false → is_this 7 o ≡ false → P o) → P o
 by_number P None first third fifth seventh other = other (λ constants s tokens. refl) refl refl refl refl
 by_number P (Some n) first third fifth seventh other = by (n == 1) (n == 3) (n == 5) (n == 7) refl refl refl refl
@@ -114,15 +115,15 @@ one_stated constants s t field o =
 abbrev first_of : List Field → ℕ → Option Field
 first_of fields n = find (λ f. is_label_of n f.label) fields
 
-abbrev IsOwn : List Seen → Field → Type 0
+abbrev IsOwn : List TokenView → Field → Type 0
 IsOwn tokens field = (n : ℕ) → field_of field.label ≡ Some n → field_with n tokens ≡ Some field
 
 -- each of the fields is the one of its number
-abbrev AreOwn : List Seen → List Field → Type 0
+abbrev AreOwn : List TokenView → List Field → Type 0
 AreOwn tokens fields = (before : List Field) (field : Field) (behind : List Field) → fields ≡ before ++ field ∷ behind
     → IsOwn tokens field
 
-each_own : (tokens : List Seen) (fields : List Field) → AreOwn tokens fields → AllByRecursion (IsOwn tokens) fields
+each_own : (tokens : List TokenView) (fields : List Field) → AreOwn tokens fields → AllByRecursion (IsOwn tokens) fields
 each_own tokens [] own = tt
 each_own tokens (x ∷ fields) own = (
   own [] x fields refl,
@@ -144,7 +145,7 @@ part_more {X} read n x fields a b c same one rest = by (is_label_of n x.label) r
     by false k one None e rest = one ∙ rest
     by false k one (Some g) e rest = rest
 
-all_stated : (constants : List Set) (tokens : List Seen) (fields : List Field) (s t : Stated)
+all_stated : (constants : List Set) (tokens : List TokenView) (fields : List Field) (s t : Stated)
     → AllByRecursion (IsOwn tokens) fields → stated_by constants s fields ≡ Ok t
     → AreStated constants (first_of fields) s t
 unfolding stated_by
@@ -324,7 +325,7 @@ shown_first told constants s (y ∷ before) field behind f shown least first =
 
 -- the whole text
 
-abbrev constants_of : List Seen → List Set
+abbrev constants_of : List TokenView → List Set
 constants_of tokens = constants_in (field_with 6 tokens)
 
 part_is : {X : Type 0} (Is : Field → X → Type 0) (Shows : Field → ReadFault → Type 0) (read : Field
@@ -333,7 +334,7 @@ part_is : {X : Type 0} (Is : Field → X → Type 0) (Shows : Field → ReadFaul
 part_is Is Shows read None a x told = (λ e. cc, λ e. ap Ok (sym e))
 part_is Is Shows read (Some f) a x told = (tells_value (Is f) (Shows f) (read f) x (told f).tells, (told f).stated x)
 
-authorizer_is : (constants : List Set) (Is : Field → List ℕ → Type 0) (tokens : List Seen) (a : List ℕ)
+authorizer_is : (constants : List Set) (Is : Field → List ℕ → Type 0) (tokens : List TokenView) (a : List ℕ)
     → ((f : Field) → IsTold (Is f) (AuthorizerShows constants f.tokens) (authorizer_in constants f.tokens))
     → (part (authorizer_part constants) (field_with 1 tokens) None ≡ Ok (Some a)) ↔ HasField 1 tokens (λ f. Is f a)
 authorizer_is constants Is tokens a told =
@@ -358,7 +359,8 @@ stated_of assertion =
     }
 
 -- the fields state the assertion that they spell
-stated_spells : PartsTold → (text : List ℕ) (tokens : List Seen) (x : Assertion) → x.constants ≡ constants_of tokens
+stated_spells : PartsTold → (text : List ℕ) (tokens : List TokenView) (x : Assertion)
+    → x.constants ≡ constants_of tokens
     → x.signed_to ≡ signed_to text tokens
     → AreStated (constants_of tokens) (λ n. field_with n tokens) nothing (stated_of x) ↔ Spells text tokens x
 stated_spells told text tokens x constants signed =
@@ -392,7 +394,7 @@ refused : {X : Type 0} (read : Field → Result X ReadFault) (own : Option Field
 refused read own field a x f is stated least = let here : read field ≡ Ok x = rw is at stated in cc (least.1)
 
 -- where all is stated, no field has a fault
-no_fault : PartsTold → (constants : List Set) (tokens : List Seen) (t : Stated) (field : Field) (f : ReadFault)
+no_fault : PartsTold → (constants : List Set) (tokens : List TokenView) (t : Stated) (field : Field) (f : ReadFault)
     → AreStated constants (λ n. field_with n tokens) nothing t
     → IsOwn tokens field → FieldShows constants field f → ⊥
 no_fault told constants tokens t field f h own (inl k) =
@@ -408,7 +410,7 @@ no_fault told constants tokens t field f h own (inr (inr (inr k))) =
     refused (λ f. signature_in f.tokens) _ field _ _ f (own 7 k.0) h.signature
     ((signature_told told field.tokens).least f k.1)
 
-tokens_tell : FieldsTold → (text : List ℕ) (tokens : List Seen) → Cuts text tokens → IsWellFielded text
+tokens_tell : FieldsTold → (text : List ℕ) (tokens : List TokenView) → Cuts text tokens → IsWellFielded text
     → Tells (IsReading text) (IsFirstReadFault text) (reading_with text tokens)
 unfolding reading_with field_with
 tokens_tell told text tokens cut well = by (stated_by (constants_of tokens) nothing (fields_of tokens)) refl
@@ -453,7 +455,7 @@ pub text_tells : FieldsTold → (text : List ℕ) → Tells (IsReading text) (Is
 unfolding reading_of
 text_tells told text = by (fields_or_fault text) refl
   where
-    by : (r : Result (List Seen) ReadFault) → fields_or_fault text ≡ r
+    by : (r : Result (List TokenView) ReadFault) → fields_or_fault text ≡ r
         → Tells (IsReading text) (IsFirstReadFault text) (and_then r (reading_with text))
     by (Err f) e = inl ((told.fault text f).0 e)
     by (Ok tokens) e = let known = (told.tokens text tokens).0 e in tokens_tell told text tokens known.0 known.1

@@ -3,7 +3,7 @@ use Rattle.std.proofs.Common.{◌≡◌, ℕ, ◌<◌, ◌⊎◌, inl, inr, ⊎_
 use Rattle.std.proofs.Common.{Err, List, [], ◌∷◌, arith, refl, sym, ap, subst}
 use Rattle.std.specs.Prelude.{◌↔◌, ok_or, ◌||◌, if◌then◌else◌}
 use Rattle.kn_env.specs.declared.constant.Constant.{Constant as Set}
-use Rattle.kn_lex.specs.Cutting.{Seen}
+use Rattle.kn_lex.specs.Cutting.{TokenView}
 use Rattle.kn_lex.specs.Literal.{literal_value}
 use Rattle.kn_lex.specs.declared.token.Sort.{Sort}
 use Rattle.kn_lex.specs.declared.token.Sort.TheVariants.{Name as NameSort, Text}
@@ -24,21 +24,21 @@ use Rattle.kn_program.specs.declared.fault.ProgramFault.TheVariants.{NoMemory as
 use Rattle.kn_assert.specs.Parts.{is_principal_token, principal_of, normal_in, text_by, only_of, one_by, authorizer_of}
 use Rattle.kn_assert.specs.Parts.{conditions_by, licensees_by, signature_of}
 use Rattle.kn_assert.specs.Reading.{shallow, authorizer_in, conditions_in, licensees_in, signature_in}
-use Rattle.kn_assert.specs.Spelled.{IsOne, AuthorizerShows, ConditionsShows, LicenseesShows, SignatureShows}
+use Rattle.kn_assert.specs.AssertionTexts.{IsOne, AuthorizerShows, ConditionsShows, LicenseesShows, SignatureShows}
 use Rattle.kn_fields.specs.declared.fault.ReadFault.{ReadFault}
 use Rattle.kn_fields.specs.declared.fault.ReadFault.TheVariants.{TooDeep, Syntax, Kind, Threshold, Name}
 
 -- what the laws below say: the test of depth is what it is to go too deep, and what is found of a formula or of a
 -- program is what the tokens state or show
 pub record PartsTold : Type 0 where
-  pub deep : (tokens : List Seen) → goes_deep 0 0 tokens ≡ true → IsTooDeep tokens
-  pub not_deep : (tokens : List Seen) → goes_deep 0 0 tokens ≡ false → IsTooDeep tokens → ⊥
-  pub states : (constants : List Set) (tokens : List Seen) (l : Option Formula)
+  pub deep : (tokens : List TokenView) → goes_deep 0 0 tokens ≡ true → IsTooDeep tokens
+  pub not_deep : (tokens : List TokenView) → goes_deep 0 0 tokens ≡ false → IsTooDeep tokens → ⊥
+  pub states : (constants : List Set) (tokens : List TokenView) (l : Option Formula)
       → licensees_of constants tokens ≡ Ok l ↔ AreLicensees constants tokens l
-  pub shows : (constants : List Set) (tokens : List Seen) (fault : FormulaFault)
+  pub shows : (constants : List Set) (tokens : List TokenView) (fault : FormulaFault)
       → licensees_of constants tokens ≡ Err fault ↔ Shows constants tokens fault
-  pub states_program : (tokens : List Seen) (p : Option Program) → program_of tokens ≡ Ok p ↔ IsConditions tokens p
-  pub shows_program : (tokens : List Seen) (fault : ProgramFault)
+  pub states_program : (tokens : List TokenView) (p : Option Program) → program_of tokens ≡ Ok p ↔ IsConditions tokens p
+  pub shows_program : (tokens : List TokenView) (fault : ProgramFault)
       → program_of tokens ≡ Err fault ↔ ProgramShows tokens fault
 
 -- the fault has a lower number than the other one, or is it
@@ -70,11 +70,11 @@ pub tells_fault : {X : Type 0} (States : X → Type 0) (Shows : ReadFault → Ty
 tells_fault States Shows read fault tells e = subst (Tells States Shows) e tells
 
 -- these tokens go too deep, or this is computed of them
-abbrev IsShown : {X : Type 0} → ℕ → List Seen → Result X ReadFault → ReadFault → Type 0
+abbrev IsShown : {X : Type 0} → ℕ → List TokenView → Result X ReadFault → ReadFault → Type 0
 IsShown n tokens read fault = ((fault ≡ TooDeep n) × IsTooDeep tokens) ⊎ ((read ≡ Err fault) × (15 < fault_order fault))
 
 -- what goes too deep is read no further
-shallow_told : {X : Type 0} (States : X → Type 0) (Shows : ReadFault → Type 0) (n : ℕ) (tokens : List Seen)
+shallow_told : {X : Type 0} (States : X → Type 0) (Shows : ReadFault → Type 0) (n : ℕ) (tokens : List TokenView)
     (read : Result X ReadFault) → PartsTold
     → Tells States Shows read → (IsTooDeep tokens → Shows (TooDeep n)) → ((x : X) → States x → read ≡ Ok x)
     → ((fault : ReadFault) → Shows fault → IsShown n tokens read fault)
@@ -106,7 +106,7 @@ shallow_told {X} States Shows n tokens read told tells deep stated shown = by (g
 -- Authorizer
 
 -- a token that states a principal is a name or a literal
-principal_token : (constants : List Set) (token : Seen) (a : List ℕ) → principal_of constants token ≡ Some a
+principal_token : (constants : List Set) (token : TokenView) (a : List ℕ) → principal_of constants token ≡ Some a
     → is_principal_token token ≡ true
 unfolding principal_of
 principal_token constants token a e = by token.sort e
@@ -118,10 +118,11 @@ principal_token constants token a e = by token.sort e
     by _ e = absurd (cc)
 
 -- what one token states that passes a test, or a fault
-one_tells : {X : Type 0} (States : X → Type 0) (Shows : ReadFault → Type 0) (n : ℕ) (test : Seen → Bool) (read : Seen
-    → Result X ReadFault) (tokens : List Seen)
+one_tells : {X : Type 0} (States : X → Type 0) (Shows : ReadFault → Type 0) (n : ℕ) (test : TokenView → Bool)
+    (read : TokenView
+    → Result X ReadFault) (tokens : List TokenView)
     → ((IsOne tokens (λ token. test token ≡ true) → ⊥) → Shows (Syntax n))
-    → ((token : Seen) → tokens ≡ token ∷ [] → test token ≡ true → Tells States Shows (read token))
+    → ((token : TokenView) → tokens ≡ token ∷ [] → test token ≡ true → Tells States Shows (read token))
     → Tells States Shows (one_by n test read (only_of tokens))
 one_tells States Shows n test read [] none one = none (λ h. cc)
 one_tells States Shows n test read (t ∷ u ∷ ts) none one = none (λ h. cc)
@@ -131,7 +132,8 @@ one_tells States Shows n test read (token ∷ []) none one = by (test token) ref
     by true e = one token refl e
     by false e = none (λ h. let same : h.0 ≡ token = cc (h.1) in let passes = h.2 in absurd (cc (ap test same)))
 
-none_passes : {X : Type 0} (n : ℕ) (test : Seen → Bool) (read : Seen → Result X ReadFault) (tokens : List Seen)
+none_passes : {X : Type 0} (n : ℕ) (test : TokenView → Bool) (read : TokenView → Result X ReadFault)
+    (tokens : List TokenView)
     → (IsOne tokens (λ token. test token ≡ true) → ⊥)
     → one_by n test read (only_of tokens) ≡ Err (Syntax n)
 none_passes n test read [] none = refl
@@ -143,10 +145,10 @@ none_passes {X} n test read (token ∷ []) none = by (test token) refl
     by true e = absurd (none (token, refl, e))
     by false e = refl
 
-abbrev AuthorizerStates : List Set → List Seen → List ℕ → Type 0
+abbrev AuthorizerStates : List Set → List TokenView → List ℕ → Type 0
 AuthorizerStates constants tokens a = IsOne tokens (λ token. principal_of constants token ≡ Some a)
 
-authorizer_tells : (constants : List Set) (tokens : List Seen)
+authorizer_tells : (constants : List Set) (tokens : List TokenView)
     → Tells (AuthorizerStates constants tokens) (AuthorizerShows constants tokens) (authorizer_of constants tokens)
 unfolding authorizer_of
 authorizer_tells constants tokens =
@@ -154,13 +156,13 @@ authorizer_tells constants tokens =
     (λ none. (refl, none))
     (λ token is passes. by token is passes (principal_of constants token) refl)
   where
-    by : (token : Seen) → tokens ≡ token ∷ [] → is_principal_token token ≡ true → (o : Option (List ℕ))
+    by : (token : TokenView) → tokens ≡ token ∷ [] → is_principal_token token ≡ true → (o : Option (List ℕ))
         → principal_of constants token ≡ o
         → Tells (AuthorizerStates constants tokens) (AuthorizerShows constants tokens) (ok_or o (Name 1))
     by token is passes (Some a) named = (token, is, named)
     by token is passes None named = (refl, (token, is, (passes, named)))
 
-authorizer_shown : (constants : List Set) (tokens : List Seen) (fault : ReadFault)
+authorizer_shown : (constants : List Set) (tokens : List TokenView) (fault : ReadFault)
     → AuthorizerShows constants tokens fault
     → IsShown 1 tokens (authorizer_of constants tokens) fault
 unfolding authorizer_of
@@ -170,12 +172,12 @@ authorizer_shown constants tokens (Syntax number) h =
 authorizer_shown constants tokens (Name number) h = inr (rw (h.1.1, h.1.2.0, h.1.2.1, h.0) refl, omega arith)
 authorizer_shown constants tokens _ h = absurd h
 
-authorizer_stated : (constants : List Set) (tokens : List Seen) (a : List ℕ) → AuthorizerStates constants tokens a
+authorizer_stated : (constants : List Set) (tokens : List TokenView) (a : List ℕ) → AuthorizerStates constants tokens a
     → authorizer_of constants tokens ≡ Ok a
 unfolding authorizer_of
 authorizer_stated constants tokens a h = rw (h.1, principal_token constants h.0 a h.2, h.2) refl
 
-pub authorizer_told : PartsTold → (constants : List Set) (tokens : List Seen)
+pub authorizer_told : PartsTold → (constants : List Set) (tokens : List TokenView)
     → IsTold (λ a. (IsTooDeep tokens → ⊥) × AuthorizerStates constants tokens a) (AuthorizerShows constants tokens)
     (authorizer_in constants tokens)
 authorizer_told told constants tokens =
@@ -186,7 +188,7 @@ authorizer_told told constants tokens =
 
 -- Conditions
 
-conditions_tells : PartsTold → (tokens : List Seen)
+conditions_tells : PartsTold → (tokens : List TokenView)
     → Tells (IsConditions tokens) (ConditionsShows tokens) (conditions_by (program_of tokens))
 conditions_tells told tokens = by (program_of tokens) refl
   where
@@ -197,7 +199,7 @@ conditions_tells told tokens = by (program_of tokens) refl
     by (Err WrongKind) e = (refl, (told.shows_program tokens WrongKind).0 e)
     by (Err NoProgramMemory) e = (told.shows_program tokens NoProgramMemory).0 e
 
-conditions_shown : PartsTold → (tokens : List Seen) (fault : ReadFault) → ConditionsShows tokens fault
+conditions_shown : PartsTold → (tokens : List TokenView) (fault : ReadFault) → ConditionsShows tokens fault
     → IsShown 3 tokens (conditions_by (program_of tokens)) fault
 conditions_shown told tokens (TooDeep number) h = inl (ap TooDeep h.0, h.1)
 conditions_shown told tokens (Syntax number) h =
@@ -206,7 +208,7 @@ conditions_shown told tokens (Kind number) h =
     inr (rw ((told.shows_program tokens WrongKind).1 h.1, h.0) refl, omega arith)
 conditions_shown told tokens _ h = absurd h
 
-pub conditions_told : PartsTold → (tokens : List Seen)
+pub conditions_told : PartsTold → (tokens : List TokenView)
     → IsTold (λ p. (IsTooDeep tokens → ⊥) × IsConditions tokens p) (ConditionsShows tokens) (conditions_in tokens)
 conditions_told told tokens =
     shallow_told (IsConditions tokens) (ConditionsShows tokens) 3 tokens (conditions_by (program_of tokens)) told
@@ -215,7 +217,7 @@ conditions_told told tokens =
 
 -- Licensees
 
-licensees_tells : PartsTold → (constants : List Set) (tokens : List Seen)
+licensees_tells : PartsTold → (constants : List Set) (tokens : List TokenView)
     → Tells (AreLicensees constants tokens) (LicenseesShows constants tokens)
     (licensees_by (licensees_of constants tokens))
 licensees_tells told constants tokens = by (licensees_of constants tokens) refl
@@ -228,7 +230,7 @@ licensees_tells told constants tokens = by (licensees_of constants tokens) refl
     by (Err NoName) e = (refl, (told.shows constants tokens NoName).0 e)
     by (Err NoFormulaMemory) e = (told.shows constants tokens NoFormulaMemory).0 e
 
-licensees_shown : PartsTold → (constants : List Set) (tokens : List Seen) (fault : ReadFault)
+licensees_shown : PartsTold → (constants : List Set) (tokens : List TokenView) (fault : ReadFault)
     → LicenseesShows constants tokens fault
     → IsShown 5 tokens (licensees_by (licensees_of constants tokens)) fault
 licensees_shown told constants tokens (TooDeep number) h = inl (ap TooDeep h.0, h.1)
@@ -240,7 +242,7 @@ licensees_shown told constants tokens (Name number) h =
     inr (rw ((told.shows constants tokens NoName).1 h.1, h.0) refl, omega arith)
 licensees_shown told constants tokens _ h = absurd h
 
-pub licensees_told : PartsTold → (constants : List Set) (tokens : List Seen)
+pub licensees_told : PartsTold → (constants : List Set) (tokens : List TokenView)
     → IsTold (λ l. (IsTooDeep tokens → ⊥) × AreLicensees constants tokens l) (LicenseesShows constants tokens)
     (licensees_in constants tokens)
 licensees_told told constants tokens =
@@ -256,17 +258,18 @@ text_sort : (sort : Sort) → is_text_sort sort ≡ true → sort ≡ Text
 text_sort Text e = refl
 text_sort _ e = absurd (cc)
 
-abbrev SignatureStates : List Seen → Option (List ℕ) → Type 0
+abbrev SignatureStates : List TokenView → Option (List ℕ) → Type 0
 SignatureStates tokens s = IsOne tokens (λ token. (token.sort ≡ Text) × (s ≡ Some (literal_value token.text)))
 
-signature_tells : (tokens : List Seen) → Tells (SignatureStates tokens) (SignatureShows tokens) (signature_of tokens)
+signature_tells : (tokens : List TokenView)
+    → Tells (SignatureStates tokens) (SignatureShows tokens) (signature_of tokens)
 unfolding signature_of
 signature_tells tokens =
     one_tells (SignatureStates tokens) (SignatureShows tokens) 7 (λ token. is_text_sort token.sort) _ tokens
     (λ none. (refl, λ one. none (one.0, one.1, ap is_text_sort one.2)))
     (λ token is text. (token, is, (text_sort token.sort text, refl)))
 
-signature_shown : (tokens : List Seen) (fault : ReadFault) → SignatureShows tokens fault
+signature_shown : (tokens : List TokenView) (fault : ReadFault) → SignatureShows tokens fault
     → IsShown 7 tokens (signature_of tokens) fault
 unfolding signature_of
 signature_shown tokens (TooDeep number) h = inl (ap TooDeep h.0, h.1)
@@ -278,11 +281,12 @@ signature_shown tokens (Syntax number) h =
     )
 signature_shown tokens _ h = absurd h
 
-signature_stated : (tokens : List Seen) (s : Option (List ℕ)) → SignatureStates tokens s → signature_of tokens ≡ Ok s
+signature_stated : (tokens : List TokenView) (s : Option (List ℕ)) → SignatureStates tokens s
+    → signature_of tokens ≡ Ok s
 unfolding signature_of
 signature_stated tokens s h = rw (h.1, h.2.0, h.2.1) refl
 
-pub signature_told : PartsTold → (tokens : List Seen)
+pub signature_told : PartsTold → (tokens : List TokenView)
     → IsTold (λ s. (IsTooDeep tokens → ⊥) × SignatureStates tokens s) (SignatureShows tokens) (signature_in tokens)
 signature_told told tokens =
     shallow_told (SignatureStates tokens) (SignatureShows tokens) 7 tokens (signature_of tokens) told

@@ -1,3 +1,3 @@
 pub mod Parts
 pub mod Reading
-pub mod Spelled
+pub mod AssertionTexts

@@ -4,7 +4,7 @@
 use Rattle.std.specs.Prelude.{ℕ, ◌≡◌, ◌⊎◌, Bool, ◌||◌, List, [], ◌∷◌, Option, Some, None, Result, Ok, Err, ok_or}
 use Rattle.std.specs.Prelude.{if◌then◌else◌}
 use Rattle.kn_env.specs.declared.constant.Constant.{Constant}
-use Rattle.kn_lex.specs.Cutting.{Seen}
+use Rattle.kn_lex.specs.Cutting.{TokenView}
 use Rattle.kn_lex.specs.Literal.{literal_value}
 use Rattle.kn_lex.specs.declared.token.Sort.{Sort}
 use Rattle.kn_lex.specs.declared.token.Sort.TheVariants.{Name as NameSort, Text}
@@ -37,28 +37,29 @@ abbrev pub normal_in : Option (List ℕ) → Option (List ℕ)
 normal_in text = if is_bad_text text then None else Some (normal_text text)
 
 -- the principal that a token states, in normal form
-unfoldable pub principal_of : List Constant → Seen → Option (List ℕ)
+unfoldable pub principal_of : List Constant → TokenView → Option (List ℕ)
 principal_of constants token = normal_in (text_by constants token.sort token.text)
 
 -- the token is a name or a literal
-abbrev pub is_principal_token : Seen → Bool
+abbrev pub is_principal_token : TokenView → Bool
 is_principal_token token = is_name_sort token.sort || is_text_sort token.sort
 
 -- the one token, where there is one alone
-abbrev pub only_of : List Seen → Option Seen
+abbrev pub only_of : List TokenView → Option TokenView
 only_of (token ∷ []) = Some token
 only_of tokens = None
 
 -- what is read of the one token of the field of this number, where it passes a test
-abbrev pub one_by : {X : Type 0} → ℕ → (Seen → Bool) → (Seen → Result X ReadFault) → Option Seen → Result X ReadFault
+abbrev pub one_by : {X : Type 0} → ℕ → (TokenView → Bool) → (TokenView → Result X ReadFault) → Option TokenView
+    → Result X ReadFault
 one_by number test read None = Err (Syntax number)
 one_by number test read (Some token) = if test token then read token else Err (Syntax number)
 
-abbrev pub authorizer_by : List Constant → Option Seen → Result (List ℕ) ReadFault
+abbrev pub authorizer_by : List Constant → Option TokenView → Result (List ℕ) ReadFault
 authorizer_by constants token = one_by 1 is_principal_token (λ t. ok_or (principal_of constants t) (Name 1)) token
 
 -- the principal of an Authorizer field
-unfoldable pub authorizer_of : List Constant → List Seen → Result (List ℕ) ReadFault
+unfoldable pub authorizer_of : List Constant → List TokenView → Result (List ℕ) ReadFault
 authorizer_of constants tokens = authorizer_by constants (only_of tokens)
 
 -- the fault of a program as one of the text; a program's reading is never `NoMemory`
@@ -82,9 +83,9 @@ abbrev pub licensees_by : Result (Option Formula) FormulaFault → Result (Optio
 licensees_by (Ok licensees) = Ok licensees
 licensees_by (Err fault) = Err (formula_fault fault)
 
-abbrev pub signature_by : Option Seen → Result (Option (List ℕ)) ReadFault
+abbrev pub signature_by : Option TokenView → Result (Option (List ℕ)) ReadFault
 signature_by token = one_by 7 (λ t. is_text_sort t.sort) (λ t. Ok (Some (literal_value t.text))) token
 
 -- the value of a Signature field
-unfoldable pub signature_of : List Seen → Result (Option (List ℕ)) ReadFault
+unfoldable pub signature_of : List TokenView → Result (Option (List ℕ)) ReadFault
 signature_of tokens = signature_by (only_of tokens)

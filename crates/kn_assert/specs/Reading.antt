@@ -4,7 +4,7 @@ use Rattle.std.specs.Prelude.{Err, IfSome, if◌then◌else◌}
 use Rattle.std.specs.Result.{result_ok, result_err}
 use Rattle.kn_base.specs.declared.limits.TheConstants.{PRINCIPAL_BYTES}
 use Rattle.kn_env.specs.declared.constant.Constant.{Constant as Set}
-use Rattle.kn_lex.specs.Cutting.{Seen}
+use Rattle.kn_lex.specs.Cutting.{TokenView}
 use Rattle.kn_fields.specs.Fields.{Field, field_of, fields_of, field_with, signed_to}
 use Rattle.kn_fields.specs.Faults.{constants_in}
 use Rattle.kn_fields.specs.Scanning.{goes_deep}
@@ -22,19 +22,19 @@ use Rattle.kn_assert.specs.Parts.{authorizer_of, conditions_by, licensees_by, si
 use Rattle.kn_assert.specs.declared.stated.Stated.{Stated}
 
 -- tokens that go too deep aren't read
-abbrev pub shallow : {X : Type 0} → ℕ → List Seen → Result X ReadFault → Result X ReadFault
+abbrev pub shallow : {X : Type 0} → ℕ → List TokenView → Result X ReadFault → Result X ReadFault
 shallow number tokens read = if goes_deep 0 0 tokens then Err (TooDeep number) else read
 
-abbrev pub authorizer_in : List Set → List Seen → Result (List ℕ) ReadFault
+abbrev pub authorizer_in : List Set → List TokenView → Result (List ℕ) ReadFault
 authorizer_in constants tokens = shallow 1 tokens (authorizer_of constants tokens)
 
-abbrev pub conditions_in : List Seen → Result (Option Program) ReadFault
+abbrev pub conditions_in : List TokenView → Result (Option Program) ReadFault
 conditions_in tokens = shallow 3 tokens (conditions_by (program_of tokens))
 
-abbrev pub licensees_in : List Set → List Seen → Result (Option Formula) ReadFault
+abbrev pub licensees_in : List Set → List TokenView → Result (Option Formula) ReadFault
 licensees_in constants tokens = shallow 5 tokens (licensees_by (licensees_of constants tokens))
 
-abbrev pub signature_in : List Seen → Result (Option (List ℕ)) ReadFault
+abbrev pub signature_in : List TokenView → Result (Option (List ℕ)) ReadFault
 signature_in tokens = shallow 7 tokens (signature_of tokens)
 
 abbrev pub and_then : {X Y : Type 0} → Result X ReadFault → (X → Result Y ReadFault) → Result Y ReadFault
@@ -45,45 +45,13 @@ abbrev pub nothing : Stated
 nothing = record { authorizer = None; licensees = None; conditions = None; signature = None }
 
 -- what is stated with the field of this number and these tokens; fields of other numbers state nothing
-abbrev pub with_field : List Set → Stated → Option ℕ → List Seen → Result Stated ReadFault
+abbrev pub with_field : List Set → Stated → Option ℕ → List TokenView → Result Stated ReadFault
 with_field constants s None tokens = Ok s
 with_field constants s (Some number) tokens =
-    if number == 1 then
-    and_then (authorizer_in constants tokens)
-    (λ x. Ok (record {
-      authorizer = Some x;
-      licensees = s.licensees;
-      conditions = s.conditions;
-      signature =
-          s.signature;
-    }))
-    else if number == 3 then
-    and_then (conditions_in tokens)
-    (λ x. Ok (record {
-      authorizer = s.authorizer;
-      licensees = s.licensees;
-      conditions = x;
-      signature =
-          s.signature;
-    }))
-    else if number == 5 then
-    and_then (licensees_in constants tokens)
-    (λ x. Ok (record {
-      authorizer = s.authorizer;
-      licensees = x;
-      conditions = s.conditions;
-      signature =
-          s.signature;
-    }))
-    else if number == 7 then
-    and_then (signature_in tokens)
-    (λ x. Ok (record {
-      authorizer = s.authorizer;
-      licensees = s.licensees;
-      conditions = s.conditions;
-      signature =
-          x;
-    }))
+    if number == 1 then and_then (authorizer_in constants tokens) (λ x. Ok (record s { authorizer = Some x }))
+    else if number == 3 then and_then (conditions_in tokens) (λ x. Ok (record s { conditions = x }))
+    else if number == 5 then and_then (licensees_in constants tokens) (λ x. Ok (record s { licensees = x }))
+    else if number == 7 then and_then (signature_in tokens) (λ x. Ok (record s { signature = x }))
     else Ok s
 
 -- what is stated with these fields, or the fault of the first one that has one
@@ -105,7 +73,7 @@ assembled constants signed s (Some principal) = Ok (record {
 })
 
 -- the assertion of a text with these tokens, or the first fault of what its fields state
-unfoldable pub reading_with : List ℕ → List Seen → Result Assertion ReadFault
+unfoldable pub reading_with : List ℕ → List TokenView → Result Assertion ReadFault
 reading_with text tokens =
     and_then (stated_by (constants_in (field_with 6 tokens)) nothing (fields_of tokens))
     (λ s. assembled (constants_in (field_with 6 tokens)) (signed_to text tokens) s s.authorizer)

@@ -9,7 +9,7 @@ ghost use Rattle.kn_formula.specs.Trees.{constant_value as constant_text};
 ghost use Rattle.kn_trees.specs.declared.assertion.Assertion.{Assertion};
 ghost use Rattle.kn_fields.specs.Numbers.{fault_place};
 ghost use Rattle.kn_assert.specs.Reading.{reading_of, IsSound};
-ghost use Rattle.kn_assert.specs.Spelled.{IsReading, IsFirstReadFault};
+ghost use Rattle.kn_assert.specs.AssertionTexts.{IsReading, IsFirstReadFault};
 ghost use Rattle.kn_fields.specs.declared.fault.ReadFault.{ReadFault};
 ghost use Rattle.kn_fields.specs.declared.fault.ReadFault.TheVariants.{NoMemory};
 
@@ -36,7 +36,7 @@ pub fn readings_are_sound()
     kn_lex::laws::tokens_or_first_fault();
 }
 
-/// The place that is told with the first fault of a text is at most the text's length. The number of a field is less
+/// The place that is given with the first fault of a text is at most the text's length. The number of a field is less
 /// than the length of its label.
 pub fn faults_stand_in_the_text()
     ensures { (text : List ℕ) (fault : ReadFault) → IsFirstReadFault text fault → fault_place fault ≤ length text }

@@ -2,7 +2,7 @@
 ghost use Rattle.std.specs.Prelude.{◌≡◌, ◌+◌, ◌≤◌, ◌<◌, true, false, None, Some, length, ok_or};
 ghost use Rattle.std.specs.Prelude.{OnOk, OnErr, IfErr, MatchResult};
 ghost use Rattle.std.specs.Option.{option_copied, option_map};
-ghost use Rattle.kn_lex.specs.Seeing.{seen};
+ghost use Rattle.kn_lex.specs.TokenViews.{token_view};
 ghost use Rattle.kn_fields.specs.Fields.{tokens_of_part};
 ghost use Rattle.kn_fields.specs.Scanning.{goes_deep};
 ghost use Rattle.kn_formula.specs.Trees.{principal_text};
@@ -39,7 +39,7 @@ fn check_depth(tokens: &Tokens<'_>, part: Part, field: u8) -> Result<(), ReadFau
 fn only<'a, 'b>(tokens: &'b Tokens<'a>, part: Part) -> Option<&'b Token<'a>>
     requires before { part.label < part.end }
     requires within { part.end ≤ length tokens.now }
-    ensures { option_map seen (option_copied result) ≡ only_of (tokens_of_part part tokens.now) }
+    ensures { option_map token_view (option_copied result) ≡ only_of (tokens_of_part part tokens.now) }
 {
     if part.end - part.label != 2 {
         return None;
@@ -84,7 +84,7 @@ fn authorizer_by(
     constants: &List<Constant>,
     token: &Token<'_>,
 ) -> Result<Octets, ReadFault>
-    ensures { Gives result (authorizer_by constants.now (Some (seen token.now))) }
+    ensures { Gives result (authorizer_by constants.now (Some (token_view token.now))) }
 {
     match token.sort {
         Sort::Name => principal_named(alloc, constants, token.text),
@@ -157,7 +157,7 @@ pub(crate) fn licensees(
 
 /// The signature that one token states.
 fn signature_by(alloc: Global, token: &Token<'_>) -> Result<Option<Octets>, ReadFault>
-    ensures { Gives result (signature_by (Some (seen token.now))) }
+    ensures { Gives result (signature_by (Some (token_view token.now))) }
 {
     match token.sort {
         Sort::Text => Ok(Some(literal(alloc, token)?)),

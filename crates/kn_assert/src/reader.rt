@@ -1,13 +1,13 @@
 //! Reading an assertion from a text.
 ghost use Rattle.std.specs.Prelude.{◌≡◌, ◌≤◌, ◌⊎◌, length, Some, Ok, Err, IfOk, IfErr, IfSome};
 ghost use Rattle.kn_base.specs.declared.limits.TheConstants.{ASSERTION_BYTES};
-ghost use Rattle.kn_trees.specs.Levels.{program_depth};
+ghost use Rattle.kn_trees.specs.Depths.{program_depth};
 ghost use Rattle.kn_fields.specs.Numbers.{fault_place};
 ghost use Rattle.kn_fields.specs.declared.fault.ReadFault.{ReadFault};
 ghost use Rattle.kn_fields.specs.declared.fault.ReadFault.TheVariants.{NoMemory};
 ghost use Rattle.kn_assert.specs.Parts.{Gives};
 ghost use Rattle.kn_assert.specs.Reading.{reading_of, assertion_of, fault_of, IsSound};
-ghost use Rattle.kn_assert.specs.Spelled.{IsReading, IsFirstReadFault};
+ghost use Rattle.kn_assert.specs.AssertionTexts.{IsReading, IsFirstReadFault};
 ghost use Rattle.kn_trees.specs.declared.assertion.Assertion.{Assertion};
 
 use crate::laws;
@@ -42,8 +42,8 @@ fn reading(alloc: Global, text: &[u8]) -> Result<Assertion, ReadFault>
     })
 }
 
-/// The assertion of a text (RFC 2704, section 4), or its first fault in the one order of faults. The place that is told
-/// with a fault is at most the text's length.
+/// The assertion of a text (RFC 2704, section 4), or its first fault in the one order of faults. The place that is
+/// given with a fault is at most the text's length.
 pub fn read(alloc: Global, text: &[u8]) -> Result<Assertion, ReadFault>
     ensures ok { IfOk result (λ assertion. assertion_of text.now ≡ Some assertion) }
     ensures err { IfErr result (λ fault. (fault ≡ NoMemory) ⊎ (fault_of text.now ≡ Some fault)) }

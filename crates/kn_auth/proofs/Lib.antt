@@ -1,9 +1,9 @@
 pub mod Blocks
-pub mod Keyed
-pub mod Stated
-pub mod Whole
+pub mod KeyMaps
+pub mod LineEntries
+pub mod KeyFiles
 pub mod FileLines
 pub mod Signatures
-pub mod Decided
-pub mod Listed
+pub mod OneReading
+pub mod DigestSets
 pub mod Taking

@@ -48,7 +48,7 @@ pub enum KeyFault {
     #[error("line {line} of the key file is malformed")]
     Line { line: usize },
     /// Out of memory for what the file says.
-    #[error("there was no memory for the key file")]
+    #[error("out of memory for the key file")]
     NoMemory,
 }
 

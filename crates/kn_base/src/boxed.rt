@@ -20,6 +20,7 @@ impl<T> Model for Boxed<T> {
 }
 
 impl<T> Boxed<T> {
+    /// The value, lent.
     pub fn get(&self) -> &T
         ensures { result.now ≡ self.now }
     {

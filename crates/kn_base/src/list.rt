@@ -1,4 +1,4 @@
-//! Lists.
+//! Lists of at most `u32::MAX` items, which may run out of memory.
 ghost use Rattle.std.specs.Prelude.{◌≡◌, ◌<◌, ◌≤◌, ◌+◌, ◌^◌, ◌↔◌};
 ghost use Rattle.std.specs.Prelude.{[], ◌∷◌, ◌++◌, length, vec_len, slice_get, slice_set, remove};
 ghost use Rattle.std.specs.Prelude.{IsTrue, IfOk, IfErr, OnOk, OnErr, MatchOption};
@@ -78,12 +78,14 @@ impl<T> List<T> {
         }
     }
 
+    /// How many items there are.
     pub fn len(&self) -> u32
         ensures { result ≡ length self.now }
     {
         self.items.len() as u32
     }
 
+    /// Whether there are no items.
     pub fn is_empty(&self) -> bool
         ensures { IsTrue result ↔ (self.now ≡ []) }
     {
@@ -97,6 +99,7 @@ impl<T> List<T> {
         self.items.get(i as usize)
     }
 
+    /// The items in their order, lent.
     pub fn as_slice(&self) -> &[T]
         ensures { result.now ≡ self.now }
     {

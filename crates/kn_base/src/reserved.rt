@@ -106,6 +106,7 @@ impl<T> Reserved<T> {
         self.items.push_reserved(item);
     }
 
+    /// How many items there are. Spare room is not counted.
     pub fn len(&self) -> u32
         ensures { result ≡ length self.now.items }
     {
@@ -119,6 +120,7 @@ impl<T> Reserved<T> {
         self.items.get(i as usize)
     }
 
+    /// The items in their order, lent.
     pub fn as_slice(&self) -> &[T]
         ensures { result.now ≡ self.now.items }
     {

@@ -36,6 +36,7 @@ impl<L> Steps<L> {
         self.taken = self.taken.saturating_add(1);
     }
 
+    /// How many steps were counted. At the greatest `u64` there may have been more.
     pub fn count(&self) -> u64
         ensures { result ≡ self.now }
     {

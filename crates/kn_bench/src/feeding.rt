@@ -4,7 +4,7 @@ ghost use Rattle.std.specs.Prelude.{◌≡◌, ◌≤◌, ◌<◌, None, IfSome}
 ghost use Rattle.kn_wire.specs.Feeding.{next_of};
 ghost use Rattle.kn_wire.specs.Feeds.{held};
 
-use kn_wire::{Feed, PIECE_BYTES, WireFault};
+use kn_wire::{CHUNK_BYTES, Feed, WireFault};
 use std::alloc::{AllocError, Global};
 use std::io;
 use std::rt::Clock;
@@ -32,7 +32,7 @@ fn take_all(feed: &mut Feed) -> Option<u32>
     ensures { IfSome result (λ _. next_of (held feed.new) ≡ None) }
 {
     let mut taken: u32 = 0;
-    for _ in 0..PIECE_BYTES + 1 {
+    for _ in 0..CHUNK_BYTES + 1 {
         match feed.next() {
             Ok(None) => return Some(taken),
             Ok(Some(_)) => taken = taken.wrapping_add(1),
@@ -48,7 +48,7 @@ fn take_all(feed: &mut Feed) -> Option<u32>
 /// Counts the requests of a stream in pieces of so many bytes; 0 when memory ran out or a block was refused.
 fn hear(alloc: Global, text: &[u8], size: usize) -> u32
     requires some { 0 < size }
-    requires short { size ≤ PIECE_BYTES }
+    requires short { size ≤ CHUNK_BYTES }
 {
     let Ok(mut feed) = Feed::new(alloc) else {
         return 0;
@@ -72,7 +72,7 @@ fn hear(alloc: Global, text: &[u8], size: usize) -> u32
 /// The least nanoseconds of several runs, which other work on the machine disturbs least.
 fn least(clock: &impl Clock, alloc: Global, text: &[u8], size: usize) -> io::Result<u128>
     requires some { 0 < size }
-    requires short { size ≤ PIECE_BYTES }
+    requires short { size ≤ CHUNK_BYTES }
 {
     let mut least = u128::MAX;
     for _ in 0..50 {

@@ -55,7 +55,7 @@ fn lexing(clock: &impl Clock, alloc: Global, text: &[u8], rounds: u32) -> io::Re
 }
 
 /// Nanoseconds of so many plain scans.
-fn scanning(clock: &impl Clock, text: &[u8], rounds: u32) -> io::Result<u128> {
+fn measure_scans(clock: &impl Clock, text: &[u8], rounds: u32) -> io::Result<u128> {
     let start = Instant::now(clock)?;
     let mut seen: usize = 0;
     for i in 0..rounds {
@@ -74,7 +74,7 @@ fn least(clock: &impl Clock, alloc: Global, text: &[u8]) -> io::Result<(u128, u1
     let mut scanned = u128::MAX;
     for _ in 0..30 {
         lexed = lexed.min(lexing(clock, alloc, text, ROUNDS)?);
-        scanned = scanned.min(scanning(clock, text, ROUNDS)?);
+        scanned = scanned.min(measure_scans(clock, text, ROUNDS)?);
     }
     Ok((lexed, scanned))
 }

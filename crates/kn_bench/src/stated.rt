@@ -23,6 +23,7 @@ pub enum Shape {
 }
 
 impl Shape {
+    /// The word for it in the lines that are printed.
     pub fn name(self) -> &'static str {
         match self {
             Shape::Worst => "worst",
@@ -54,7 +55,7 @@ fn draw(seed: &mut u64, below: u32) -> u32
     ((*seed >> 33) % u64::from(below)) as u32
 }
 
-fn copied(alloc: Global, pieces: &[Piece]) -> Result<List<Piece>, NoMemory>
+fn copy_pieces(alloc: Global, pieces: &[Piece]) -> Result<List<Piece>, NoMemory>
     ensures { IfOk result (λ copy. copy ≡ pieces.now) }
 {
     let mut copy = List::new(alloc);
@@ -73,7 +74,7 @@ fn state_chain(alloc: Global, authorizer: u32, size: u32) -> Result<Stated, NoMe
     requires most { size ≤ 4096 }
     ensures { IfOk result (IsStated size) }
 {
-    let formula = copied(alloc, &[Piece::Who(authorizer + 1)])?;
+    let formula = copy_pieces(alloc, &[Piece::Who(authorizer + 1)])?;
     Ok(Stated {
         authorizer,
         ceiling: LEVELS - 1,
@@ -105,7 +106,7 @@ fn state_mixed(
         Piece::Who(second),
         Piece::Who(third),
     ];
-    let formula = copied(alloc, &pieces)?;
+    let formula = copy_pieces(alloc, &pieces)?;
     Ok(Stated {
         authorizer,
         ceiling,

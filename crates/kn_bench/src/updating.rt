@@ -43,18 +43,18 @@ fn add(alloc: Global, book: &mut Book, text: &[u8]) -> Result<u32, StoreFault> {
     add_ready(book, make_ready(alloc, text)?)
 }
 
-/// Adds the text so many times at once, unless one of them is refused: then its place is told, counted from 0.
+/// Adds the text so many times at once, unless one of them is refused: then its place is given, counted from 0.
 fn add_at_once(alloc: Global, book: &mut Book, count: u32) -> Result<(), (u32, StoreFault)> {
-    let mut readies = Vec::new(alloc);
+    let mut ready_texts = Vec::new(alloc);
     for place in 0..count {
         let Ok(ready) = make_ready(alloc, TEXT) else {
             return Err((place, StoreFault::NoMemory));
         };
-        if readies.push(ready).is_err() {
+        if ready_texts.push(ready).is_err() {
             return Err((place, StoreFault::NoMemory));
         }
     }
-    book.add_all(0, readies)
+    book.add_all(0, ready_texts)
 }
 
 /// Removes the id, and answers the version.
@@ -172,6 +172,7 @@ fn fault_of_log(alloc: Global, book: &mut Book, text: &[u8]) -> StoreFault {
 /// An assertion of 16,384 bytes, the most that there may be.
 fn longest_text(alloc: Global) -> Result<Vec<u8>, AllocError> {
     let mut text = Vec::from_slice(alloc, TEXT)?;
+    // 16,384 is `ASSERTION_BYTES`.
     for _ in 0..16_384 - TEXT.len() {
         text.push(b'#')?;
     }
@@ -241,7 +242,7 @@ fn show_limit_of_log(rt: &HostRuntime, text: &[u8]) -> io::Result<()> {
     Ok(())
 }
 
-/// Three texts at once where there is room for one.
+/// Three texts at once where there is room for one: 4,095 credentials are live, one fewer than `LIVE_CREDENTIALS`.
 fn show_refused_place(rt: &HostRuntime) -> io::Result<()> {
     if let Ok(mut book) = fill_book(rt.alloc(), 4_095)
         && let Err((place, fault)) = add_at_once(rt.alloc(), &mut book, 3)

@@ -1,2 +1,2 @@
-pub mod Counted
-pub mod Refused
+pub mod NodesRead
+pub mod ProofsAccepted

@@ -83,7 +83,7 @@ IsReject s rows claimed (Claim found) = AreSteps s (at_first s) rows
     × IsOtherClaim s (levels_after (at_first s) rows) claimed found
 IsReject s rows claimed reject = (k : ℕ) × IsRowFault s rows reject k
 
--- what is told of a reason: its number, the row that it names, of the proof or of the system, or 0, and the level, or 0
+-- what is said of a reason: its number, the row that it names, of the proof or of the system, or 0, and the level, or 0
 abbrev pub reason_numbers : Reject → ℕ × ℕ × ℕ
 reason_numbers (Range row) = (1, row, 0)
 reason_numbers (Requester row) = (2, row, 0)

@@ -8,7 +8,7 @@ use Rattle.kn_auth.specs.declared.key_file.KeyFile.{KeyFile}
 use Rattle.kn_files.specs.Pieces.{pieces_of}
 use Rattle.kn_history.specs.declared.update.Update.{Update}
 use Rattle.kn_history.specs.History.{loaded_history, own_updates}
-use Rattle.kn_daemon.specs.Daemon.{Grounds}
+use Rattle.kn_daemon.specs.Daemon.{DaemonConfig}
 use Rattle.kn_daemon.specs.Alone.{IsServedAlone}
 use Rattle.kn_daemon.specs.Served.{IsServed}
 use Rattle.kn_daemon.specs.Laws.{ServedAlone}
@@ -16,13 +16,13 @@ use Rattle.kn_daemon.specs.declared.ended.Ended.{Ended}
 use Rattle.kn_daemon.specs.declared.ended.Ended.TheVariants as E
 use Rattle.kn_registry.specs.Passes.{PassSeen, IsSoundPass}
 use Rattle.kn_serve.specs.Serving.{Serves, is_over, IsOrderly, IsFaultless}
-use Rattle.kn_inputs.specs.declared.stop.Stop.TheVariants.{Memory}
+use Rattle.kn_inputs.specs.declared.input_fault.InputFault.TheVariants.{Memory}
 use Rattle.kn_words.specs.Names.{AskNames}
 use Rattle.kn_inputs.specs.Held.{IsPolicy, AreKeys}
 use Rattle.kn_load.specs.declared.fault.LoadFault.TheVariants as L
 use Rattle.kn_history.specs.declared.fault.StoreFault.TheVariants as F
 use Rattle.kn_load.proofs.Alone.{alone}
-use Rattle.kn_inputs.specs.Inputs.{grounds_of}
+use Rattle.kn_inputs.specs.Inputs.{config_of_keys}
 use Rattle.kn_commands.specs.Asking.{IsLinkServed, IsLinkAnswered}
 use Rattle.kn_inputs.proofs.Stopped.{keys_there}
 use Rattle.kn_inputs.proofs.Files.{asked_both}
@@ -30,7 +30,8 @@ use Rattle.kn_inputs.proofs.Files.{asked_both}
 pub answered_there : (f mid f' : FilesSeen) (o o' : LinkSeen) (names : AskNames) (bytes : List ℕ) (keys : KeyFile)
     (ended : Ended) → IsPolicy f names.policy bytes →
     HasAsked (names.policy ∷ []) f mid → HasAsked (option_to_list names.keys) mid f' → AreKeys mid names.keys keys →
-    IsLinkServed (grounds_of keys) (loaded_history (pieces_of bytes)) o o' ended → IsLinkAnswered f f' o o' names ended
+    IsLinkServed (config_of_keys keys) (loaded_history (pieces_of bytes)) o o' ended
+    → IsLinkAnswered f f' o o' names ended
 answered_there f mid f' o o' names bytes keys ended policy before asked known served = record {
   asked = asked_both (names.policy ∷ []) (option_to_list names.keys) f mid f' before asked;
   bytes = bytes;
@@ -41,7 +42,7 @@ answered_there f mid f' o o' names bytes keys ended policy before asked known se
 }
 
 -- a link that a root served which is alone is served by a daemon of one thread
-pub link_served : ServedAlone → (g : Grounds) (v w : PassSeen) (o o' : LinkSeen) (ended : Ended) → v.number ≡ 0
+pub link_served : ServedAlone → (g : DaemonConfig) (v w : PassSeen) (o o' : LinkSeen) (ended : Ended) → v.number ≡ 0
     → v.splits ≡ 0 → IsSoundPass w → Serves g v w o o' ended →
     IfSome o.left (λ input. IsOrderly input → IsFaultless o o' → (ended ≡ E.Done) ⊎ (ended ≡ E.Memory))
     → IsLinkServed g v.seen o o' ended

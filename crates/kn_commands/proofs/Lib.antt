@@ -1,4 +1,4 @@
 pub mod GenLoads
-pub mod Reached
+pub mod CheckedFiles
 pub mod Asked
 pub mod Transcripts

@@ -5,9 +5,10 @@ use Rattle.kn_outside.specs.Asked.{HasAsked}
 use Rattle.kn_files.specs.Pieces.{pieces_of}
 use Rattle.kn_history.specs.declared.update.Update.{Update}
 use Rattle.kn_history.specs.History.{loaded_history}
-use Rattle.kn_inputs.specs.declared.stop.Stop.{Stop}
-use Rattle.kn_inputs.specs.declared.stop.Stop.TheVariants.{Words, FileFailed, FileTooLarge, Policy, Limit, KeyLine}
-use Rattle.kn_inputs.specs.declared.stop.Stop.TheVariants.{Memory}
+use Rattle.kn_inputs.specs.declared.input_fault.InputFault.{InputFault}
+use Rattle.kn_inputs.specs.declared.input_fault.InputFault.TheVariants.{Words, FileFailed, FileTooLarge, Policy, Limit}
+use Rattle.kn_inputs.specs.declared.input_fault.InputFault.TheVariants.{KeyLine}
+use Rattle.kn_inputs.specs.declared.input_fault.InputFault.TheVariants.{Memory}
 use Rattle.kn_words.specs.Names.{VerifyNames}
 use Rattle.kn_inputs.specs.Held.{HasContent, IsPolicy}
 use Rattle.kn_inputs.specs.Stopping.{IsUnread}
@@ -15,7 +16,8 @@ use Rattle.kn_commands.specs.Verifying.{StopsAtFile, IsTranscriptRead}
 use Rattle.kn_inputs.proofs.Files.{content_there, too_large_there, keeps_content, asked_both, failed_behind}
 
 -- a file that isn't read stops the command, behind files that were
-pub unread_behind : (front : List (List ℕ)) (f mid f' : FilesSeen) (name : List ℕ) (stop : Stop) → HasAsked front f mid
+pub unread_behind : (front : List (List ℕ)) (f mid f' : FilesSeen) (name : List ℕ) (stop : InputFault)
+    → HasAsked front f mid
     → IsUnread mid f' name stop → StopsAtFile f f' front name stop
 unread_behind front f mid f' name FileFailed before unread = failed_behind front (name ∷ []) f mid f' before unread
 unread_behind front f mid f' name FileTooLarge before unread = (

@@ -1,16 +1,16 @@
 -- Why serving a link over a policy ends, and what it leaves (keynoted's own).
 use Rattle.std.specs.Prelude.{ℕ, ◌≡◌, ◌⊎◌, List, ◌++◌, IfSome, length}
 use Rattle.kn_outside.specs.Seen.{FilesSeen, LinkSeen}
-use Rattle.kn_outside.specs.Told.{more, before}
+use Rattle.kn_outside.specs.SpecifiedBytes.{more, before}
 use Rattle.kn_history.specs.declared.update.Update.{Update}
-use Rattle.kn_daemon.specs.Daemon.{Grounds}
+use Rattle.kn_daemon.specs.Daemon.{DaemonConfig}
 use Rattle.kn_daemon.specs.Alone.{IsServedAlone}
 use Rattle.kn_daemon.specs.Served.{IsServed}
 use Rattle.kn_daemon.specs.declared.ended.Ended.{Ended}
 use Rattle.kn_daemon.specs.declared.ended.Ended.TheVariants as E
 use Rattle.kn_serve.specs.Serving.{is_over, HasCause, IsOrderly, IsFaultless}
 use Rattle.kn_words.specs.Names.{AskNames}
-use Rattle.kn_inputs.specs.declared.stop.Stop.TheVariants.{Memory}
+use Rattle.kn_inputs.specs.declared.input_fault.InputFault.TheVariants.{Memory}
 use Rattle.kn_endings.specs.declared.ask_ending.AskEnding.{AskEnding}
 use Rattle.kn_endings.specs.declared.ask_ending.AskEnding.TheVariants.{PolicyStopped, KeysStopped, Served}
 use Rattle.kn_inputs.specs.Inputs.{RunsOver, StopsAtPolicy, AreKeysStopped}
@@ -18,7 +18,7 @@ use Rattle.kn_inputs.specs.Inputs.{RunsOver, StopsAtPolicy, AreKeysStopped}
 -- The link was served over this history, to which caller 0 added these updates: the bytes that were taken of it and
 -- written to it, where the turn was had, and why the connection ended so. Caller 0 is the only one, so the replies tell
 -- each place. An input that is in order is served to its end, if no call of the link fails and memory doesn't run out.
-pub record IsLinkServed (g : Grounds) (past : List Update) (o o' : LinkSeen) (ended : Ended) : Type 0 where
+pub record IsLinkServed (g : DaemonConfig) (past : List Update) (o o' : LinkSeen) (ended : Ended) : Type 0 where
   pub taken : List ℕ
   pub written : List ℕ
   pub added : List Update

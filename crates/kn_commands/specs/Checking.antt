@@ -9,18 +9,19 @@ use Rattle.kn_history.specs.History.{loaded_history}
 use Rattle.kn_history.specs.Loading.{IsFaultyAt}
 use Rattle.kn_session.specs.Sessions.{Session}
 use Rattle.kn_daemon.specs.Daemon.{equations_of}
-use Rattle.kn_play.specs.Meaning.{Means}
+use Rattle.kn_play.specs.LastQueries.{Means}
 use Rattle.kn_proof.specs.declared.fault.ProofFault.{ProofFault}
 use Rattle.kn_proof.specs.declared.fault.ProofFault.TheVariants as F
 use Rattle.kn_proof.specs.Reading.{IsReplyText, IsFirstFault, fault_number, fault_line}
 use Rattle.kn_verify.specs.Verdicts.{IsReplyTo, IsProved, IsUnproved}
-use Rattle.kn_inputs.specs.declared.stop.Stop.{Stop}
-use Rattle.kn_inputs.specs.declared.stop.Stop.TheVariants.{Words, FileFailed, FileTooLarge, Limit, KeyLine, Memory}
-use Rattle.kn_inputs.specs.declared.stop.Stop.TheVariants as S
+use Rattle.kn_inputs.specs.declared.input_fault.InputFault.{InputFault}
+use Rattle.kn_inputs.specs.declared.input_fault.InputFault.TheVariants.{Words, FileFailed, FileTooLarge, Limit, KeyLine}
+use Rattle.kn_inputs.specs.declared.input_fault.InputFault.TheVariants.{Memory}
+use Rattle.kn_inputs.specs.declared.input_fault.InputFault.TheVariants as S
 use Rattle.kn_words.specs.declared.files.Source.{Source}
 use Rattle.kn_words.specs.declared.files.Source.TheVariants.{Policy, Script as TheScript, Reply}
-use Rattle.kn_endings.specs.declared.ending.Ending.{Ending}
-use Rattle.kn_endings.specs.declared.ending.Ending.TheVariants.{Stopped, NoQuery, Faulty, Rejected, Proved}
+use Rattle.kn_endings.specs.declared.check_ending.CheckEnding.{CheckEnding}
+use Rattle.kn_endings.specs.declared.check_ending.CheckEnding.TheVariants.{Stopped, NoQuery, Faulty, Rejected, Proved}
 use Rattle.kn_words.specs.Names.{CheckNames, in_order}
 use Rattle.kn_words.specs.Sources.{name_of}
 use Rattle.kn_inputs.specs.Held.{HasContent, IsTooLarge, IsPolicy, IsFileRead}
@@ -81,7 +82,7 @@ LacksAt f f' names source =
     ⊎ (HasAsked (take (count_to source) (in_order names)) f f' × HoldsWhereMemoryLacks f names source)
 
 -- why reading a file, or loading the policy, stops a run
-abbrev pub StopsCheckAt : FilesSeen → FilesSeen → CheckNames → Source → Stop → Type 0
+abbrev pub StopsCheckAt : FilesSeen → FilesSeen → CheckNames → Source → InputFault → Type 0
 StopsCheckAt f f' names source FileFailed = Reached f names source
     × HasFailed (take (count_to source) (in_order names)) f f'
 StopsCheckAt f f' names source FileTooLarge = Reached f names source
@@ -95,7 +96,7 @@ StopsCheckAt f f' names source Words = ⊥
 StopsCheckAt f f' names source (KeyLine n) = ⊥
 
 -- how a run ends at a fault of a text; `NoMemory` has no number
-abbrev pub ending_of_fault : ProofFault → Ending
+abbrev pub ending_of_fault : ProofFault → CheckEnding
 ending_of_fault (F.Line n) = Faulty 1 n
 ending_of_fault (F.Number n) = Faulty 2 n
 ending_of_fault (F.Count n) = Faulty 3 n
@@ -125,7 +126,7 @@ pub record IsProvedText (session : Session) (values : List (List ℕ)) (text : L
   pub proved : IsProved (equations_of session values) (length session.pinned) values reply
 
 -- what the text of a reply to a query shows where a run ends so; memory runs out only for one to the query
-abbrev pub ReplyShows : Session → List (List ℕ) → List ℕ → Ending → Type 0
+abbrev pub ReplyShows : Session → List (List ℕ) → List ℕ → CheckEnding → Type 0
 ReplyShows session values text (Stopped source stop) = (source ≡ Reply) × (stop ≡ Memory) × IsTextTo session values text
 ReplyShows session values text NoQuery = ⊥
 ReplyShows session values text (Faulty fault line) = IsFaultyText session values text fault line
@@ -133,7 +134,7 @@ ReplyShows session values text (Rejected reject) = IsUnprovedText session values
 ReplyShows session values text (Proved value name) = IsProvedText session values text value name
 
 -- what a reply to a query shows that was read
-abbrev pub ReadShows : Session → List (List ℕ) → ReadReply → Ending → Type 0
+abbrev pub ReadShows : Session → List (List ℕ) → ReadReply → CheckEnding → Type 0
 ReadShows session values reply (Stopped source stop) = (source ≡ Reply) × (stop ≡ Memory)
     × IsReplyTo (length session.pinned) values reply
 ReadShows session values reply NoQuery = ⊥
@@ -152,7 +153,7 @@ pub record IsTried (f f' : FilesSeen) (names : CheckNames) (session : Session) (
   pub content : HasContent f names.reply text
 
 -- the files hold a query and a text, which shows why a run ends so
-pub record IsShown (f f' : FilesSeen) (names : CheckNames) (ending : Ending) : Type 0 where
+pub record IsShown (f f' : FilesSeen) (names : CheckNames) (ending : CheckEnding) : Type 0 where
   pub session : Session
   pub values : List (List ℕ)
   pub text : List ℕ
@@ -160,7 +161,7 @@ pub record IsShown (f f' : FilesSeen) (names : CheckNames) (ending : Ending) : T
   pub shows : ReplyShows session values text ending
 
 -- why a run ends so
-abbrev pub CheckCause : FilesSeen → FilesSeen → CheckNames → Ending → Type 0
+abbrev pub CheckCause : FilesSeen → FilesSeen → CheckNames → CheckEnding → Type 0
 CheckCause f f' names (Stopped source stop) = StopsCheckAt f f' names source stop
 CheckCause f f' names NoQuery = HasAsked (take 2 (in_order names)) f f' × HasNoQuery f names
 CheckCause f f' names (Faulty fault line) = IsShown f f' names (Faulty fault line)

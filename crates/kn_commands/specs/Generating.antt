@@ -13,4 +13,4 @@ pub record IsGenLine (numbers : GenNumbers) (line : List ℕ) : Type 0 where
   pub is_measured : IsMeasured (generated_query numbers.start numbers.count) measured
   pub name : List ℕ
   pub named : slice_get generated_values measured.level ≡ Some name
-  pub told : line ≡ gen_line numbers.count name measured
+  pub exact : line ≡ gen_line numbers.count name measured

@@ -10,8 +10,8 @@ use Rattle.kn_transcript.specs.declared.fault.TranscriptFault.TheVariants as F
 use Rattle.kn_transcript.specs.Accepted.{IsAcceptedTranscript}
 use Rattle.kn_transcript.specs.Faulty.{IsFaultyTranscript}
 use Rattle.kn_words.specs.Names.{VerifyNames, verify_order}
-use Rattle.kn_inputs.specs.declared.stop.Stop.{Stop}
-use Rattle.kn_inputs.specs.declared.stop.Stop.TheVariants.{FileFailed, FileTooLarge, Memory}
+use Rattle.kn_inputs.specs.declared.input_fault.InputFault.{InputFault}
+use Rattle.kn_inputs.specs.declared.input_fault.InputFault.TheVariants.{FileFailed, FileTooLarge, Memory}
 use Rattle.kn_endings.specs.declared.verify_ending.VerifyEnding.{VerifyEnding}
 use Rattle.kn_endings.specs.declared.verify_ending.VerifyEnding.TheVariants.{PolicyStopped, ScriptStopped}
 use Rattle.kn_endings.specs.declared.verify_ending.VerifyEnding.TheVariants.{RepliesStopped, Faulty, Verified}
@@ -19,20 +19,20 @@ use Rattle.kn_inputs.specs.Inputs.{StopsAtPolicy}
 use Rattle.kn_inputs.specs.Held.{HasContent, IsTooLarge, IsPolicy}
 
 -- why reading a file stops a command, behind files of these names
-abbrev pub StopsAtFile : FilesSeen → FilesSeen → List (List ℕ) → List ℕ → Stop → Type 0
+abbrev pub StopsAtFile : FilesSeen → FilesSeen → List (List ℕ) → List ℕ → InputFault → Type 0
 StopsAtFile f f' front name FileFailed = HasFailed (front ++ name ∷ []) f f'
 StopsAtFile f f' front name FileTooLarge = HasAsked (front ++ name ∷ []) f f' × IsTooLarge f name
 StopsAtFile f f' front name Memory = HasAsked front f f'
 StopsAtFile f f' front name stop = ⊥
 
 -- the policy file is a policy, and this stops the command at the script
-pub record IsScriptStopped (f f' : FilesSeen) (names : VerifyNames) (stop : Stop) : Type 0 where
+pub record IsScriptStopped (f f' : FilesSeen) (names : VerifyNames) (stop : InputFault) : Type 0 where
   pub bytes : List ℕ
   pub policy : IsPolicy f names.policy bytes
   pub stops : StopsAtFile f f' (names.policy ∷ []) names.script stop
 
 -- the script is read behind it, and this stops the command at the replies
-pub record AreRepliesStopped (f f' : FilesSeen) (names : VerifyNames) (stop : Stop) : Type 0 where
+pub record AreRepliesStopped (f f' : FilesSeen) (names : VerifyNames) (stop : InputFault) : Type 0 where
   pub bytes : List ℕ
   pub policy : IsPolicy f names.policy bytes
   pub script : List ℕ

@@ -6,13 +6,13 @@ ghost use Rattle.kn_outside.specs.Asked.{HasAsked};
 ghost use Rattle.kn_history.specs.History.{loaded_history};
 ghost use Rattle.kn_inputs.specs.Held.{IsPolicy};
 ghost use Rattle.kn_load.specs.Loaded.{IsLoaded};
-ghost use Rattle.kn_inputs.specs.Inputs.{grounds_of};
+ghost use Rattle.kn_inputs.specs.Inputs.{config_of_keys};
 ghost use Rattle.kn_commands.specs.Asking.{AskCause, IsLinkServed};
 
 use kn_auth::KeyFile;
 use kn_daemon::laws::served_alone;
 use kn_endings::AskEnding;
-use kn_inputs::{Stop, keys_of, read_file};
+use kn_inputs::{InputFault, keys_of, read_file};
 use kn_load::load_file;
 use kn_outside::{Files, Gate, Link};
 use kn_registry::{Pass, Registry};
@@ -47,7 +47,7 @@ pub fn ask<R: Threads + Wait + Sync, F: Files, L: Link, G: Gate>(
             mem::forget(registry);
             ending
         }
-        Err(fault) => AskEnding::PolicyStopped(Stop::from(fault)),
+        Err(fault) => AskEnding::PolicyStopped(InputFault::from(fault)),
     }
 }
 
@@ -86,7 +86,7 @@ fn serve<R: Wait, L: Link, G: Gate>(
 ) -> Ended
     requires loaded { (texts : List (List ℕ)) × IsLoaded texts registry.now root }
     ensures { (texts : List (List ℕ)) → IsLoaded texts registry.now root
-        → IsLinkServed (grounds_of keys.now) (loaded_history texts) (L.seen own.old) (L.seen own.new) result }
+        → IsLinkServed (config_of_keys keys.now) (loaded_history texts) (L.seen own.old) (L.seen own.new) result }
 {
     served_alone();
     let mut root = root;

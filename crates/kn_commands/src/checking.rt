@@ -12,12 +12,12 @@ ghost use Rattle.kn_load.specs.Loaded.{IsLoaded};
 ghost use Rattle.kn_commands.specs.Checking.{CheckCause, HasQuery, ReadShows, ReplyShows, ending_of_fault};
 
 use kn_base::NoMemory;
-use kn_endings::Ending;
+use kn_endings::CheckEnding;
 use kn_env::Values;
-use kn_inputs::{Stop, read_file};
+use kn_inputs::{InputFault, read_file};
 use kn_load::load_file;
 use kn_outside::Files;
-use kn_play::{Meant, find_query};
+use kn_play::{LastQuery, find_query};
 use kn_proof::{ProofFault, ReadReply, read_reply, scan_reply};
 use kn_registry::{Pass, Registry};
 use kn_session::View;
@@ -35,19 +35,19 @@ pub fn check<R: Threads + Wait + Sync, F: Files>(
     alloc: Global,
     names: &CheckFiles<'_>,
     files: &mut F,
-) -> Ending
+) -> CheckEnding
     ensures { CheckCause (F.seen files.old) (F.seen files.new) names.now result }
 {
     let source = Source::Policy;
     let file = match read_file(files, names.name(source)) {
         Ok(file) => file,
-        Err(stop) => return Ending::Stopped { source, stop },
+        Err(stop) => return CheckEnding::Stopped { source, stop },
     };
     match load_file(rt, alloc, file.as_slice()) {
         Ok((registry, root)) => check_script(rt, alloc, registry, root, names, files),
         Err(fault) => {
-            let stop = Stop::from(fault);
-            Ending::Stopped { source, stop }
+            let stop = InputFault::from(fault);
+            CheckEnding::Stopped { source, stop }
         }
     }
 }
@@ -60,7 +60,7 @@ fn check_script<R: Wait, F: Files>(
     root: Pass,
     names: &CheckFiles<'_>,
     files: &mut F,
-) -> Ending
+) -> CheckEnding
     requires loaded { (texts : Of (Of ℕ)) × IsLoaded texts registry root }
     ensures { (f : FilesSeen) (bytes : Of ℕ) → HasContent f names.now.policy bytes
         → IsLoaded (pieces_of bytes) registry root → HasAsked (take 1 (in_order names.now)) f (F.seen files.old)
@@ -70,27 +70,27 @@ fn check_script<R: Wait, F: Files>(
     let source = Source::Script;
     let script = match read_file(files, names.name(source)) {
         Ok(script) => script,
-        Err(stop) => return Ending::Stopped { source, stop },
+        Err(stop) => return CheckEnding::Stopped { source, stop },
     };
     let book = registry.into_book(rt, &mut root);
-    let stop = Stop::Memory;
+    let stop = InputFault::Memory;
     let query = match find_query(alloc, &book, script.as_slice()) {
         Ok(query) => query,
-        Err(NoMemory) => return Ending::Stopped { source, stop },
+        Err(NoMemory) => return CheckEnding::Stopped { source, stop },
     };
     match &query {
         Some(meant) => check_reply(alloc, meant, names, files),
-        None => Ending::NoQuery,
+        None => CheckEnding::NoQuery,
     }
 }
 
 /// Checks the reply to the query that a script means.
 fn check_reply<F: Files>(
     alloc: Global,
-    meant: &Meant,
+    meant: &LastQuery,
     names: &CheckFiles<'_>,
     files: &mut F,
-) -> Ending
+) -> CheckEnding
     ensures { (f : FilesSeen) (session : Session)
         → session_in meant.now.sessions.sessions meant.now.session ≡ Some session
         → HasQuery f names.now session meant.now.values
@@ -100,12 +100,12 @@ fn check_reply<F: Files>(
     let source = Source::Reply;
     match read_file(files, names.name(source)) {
         Ok(text) => judge(alloc, &meant.view(), &meant.values, text.as_slice()),
-        Err(stop) => Ending::Stopped { source, stop },
+        Err(stop) => CheckEnding::Stopped { source, stop },
     }
 }
 
 /// What the text of a reply shows of the query of a session for these values.
-fn judge(alloc: Global, view: &View<'_>, values: &Values, text: &[u8]) -> Ending
+fn judge(alloc: Global, view: &View<'_>, values: &Values, text: &[u8]) -> CheckEnding
     requires privates { ArePrivates (session_of_view view.now).privates }
     requires readings { AreReadPrivates view.now.private.now }
     requires requesters { AreRequesters view.now.requesters.now }
@@ -116,7 +116,7 @@ fn judge(alloc: Global, view: &View<'_>, values: &Values, text: &[u8]) -> Ending
         Err(fault) => return faulty(fault),
     };
     if !is_reply_to(&head, view, values) {
-        return Ending::Faulty { fault: 1, line: 1 };
+        return CheckEnding::Faulty { fault: 1, line: 1 };
     }
     match read_reply(alloc, text) {
         Ok(reply) => weigh(alloc, view, values, reply),
@@ -125,35 +125,35 @@ fn judge(alloc: Global, view: &View<'_>, values: &Values, text: &[u8]) -> Ending
 }
 
 /// What a reply shows of the query of a session for these values.
-fn weigh(alloc: Global, view: &View<'_>, values: &Values, reply: ReadReply) -> Ending
+fn weigh(alloc: Global, view: &View<'_>, values: &Values, reply: ReadReply) -> CheckEnding
     requires privates { ArePrivates (session_of_view view.now).privates }
     requires readings { AreReadPrivates view.now.private.now }
     requires requesters { AreRequesters view.now.requesters.now }
     ensures { ReadShows (session_of_view view.now) values.now reply result }
 {
     match verify(alloc, view, values, &reply) {
-        Ok(()) => Ending::Proved {
+        Ok(()) => CheckEnding::Proved {
             value: reply.value,
             name: reply.name,
         },
-        Err(Refused::Other) => Ending::Faulty { fault: 1, line: 1 },
-        Err(Refused::Rejected(reject)) => Ending::Rejected(reject),
-        Err(Refused::NoMemory) => Ending::Stopped {
+        Err(Refused::Other) => CheckEnding::Faulty { fault: 1, line: 1 },
+        Err(Refused::Rejected(reject)) => CheckEnding::Rejected(reject),
+        Err(Refused::NoMemory) => CheckEnding::Stopped {
             source: Source::Reply,
-            stop: Stop::Memory,
+            stop: InputFault::Memory,
         },
     }
 }
 
 /// How a text that has this fault ends the run.
-fn faulty(fault: ProofFault) -> Ending
+fn faulty(fault: ProofFault) -> CheckEnding
     ensures { result ≡ ending_of_fault fault }
 {
     match (fault.number(), fault.line()) {
-        (Some(fault), Some(line)) => Ending::Faulty { fault, line },
-        _ => Ending::Stopped {
+        (Some(fault), Some(line)) => CheckEnding::Faulty { fault, line },
+        _ => CheckEnding::Stopped {
             source: Source::Reply,
-            stop: Stop::Memory,
+            stop: InputFault::Memory,
         },
     }
 }

@@ -8,7 +8,7 @@ ghost use Rattle.kn_inputs.specs.Held.{IsPolicy};
 ghost use Rattle.kn_commands.specs.Verifying.{VerifyCause};
 
 use kn_endings::VerifyEnding;
-use kn_inputs::{Stop, read_file};
+use kn_inputs::{InputFault, read_file};
 use kn_load::load_file;
 use kn_outside::Files;
 use kn_registry::{Pass, Registry};
@@ -34,7 +34,7 @@ pub fn verify<R: Threads + Wait + Sync, F: Files>(
     };
     match load_file(rt, alloc, file.as_slice()) {
         Ok((registry, root)) => verify_loaded(rt, alloc, registry, root, names, files),
-        Err(fault) => VerifyEnding::PolicyStopped(Stop::from(fault)),
+        Err(fault) => VerifyEnding::PolicyStopped(InputFault::from(fault)),
     }
 }
 

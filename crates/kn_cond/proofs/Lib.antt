@@ -1,6 +1,6 @@
 pub mod Orders
 pub mod Digits
 pub mod Meanings
-pub mod Valued
-pub mod Joined
-pub mod Descent
+pub mod ProgramValues
+pub mod JoinLaws
+pub mod ExprDepths

@@ -10,8 +10,8 @@ use Rattle.kn_trees.specs.declared.program.Expr.TheVariants.{Or, Compare, Chain}
 use Rattle.kn_trees.specs.declared.program.Expr.TheFolds.{fold-Link2}
 use Rattle.kn_trees.proofs.Folds.{fold-Truth, fold-Whole, fold-Text, fold-Name, fold-Not, fold-Minus, fold-Number}
 use Rattle.kn_trees.proofs.Folds.{fold-Deref, fold-And, fold-Or, fold-Compare, fold-Link, fold-Chain}
-use Rattle.kn_cond.specs.Meaning.{Meaning, truth, whole, text, text_in_range, negated, minus, number_of, value_named}
-use Rattle.kn_cond.specs.Meaning.{conjunction, disjunction, comparison, chained, meaning_step, link_step, meaning_of}
+use Rattle.kn_cond.specs.Meaning.{Meaning, truth, whole, text, text_in_range, negation, minus, number_of, value_named}
+use Rattle.kn_cond.specs.Meaning.{conjunction, disjunction, comparison, chain_of, meaning_step, link_step, meaning_of}
 use Rattle.kn_cond.specs.Meaning.{links_of}
 
 abbrev Linked : Type 0
@@ -33,7 +33,7 @@ pub meaning_of-Name : (e : Environment) (name : List ℕ) → meaning_of e (Name
 unfolding meaning_of
 meaning_of-Name e name = fold-Name Meaning Linked (meaning_step e) link_step name
 
-pub meaning_of-Not : (e : Environment) (part : Expr) → meaning_of e (Not part) ≡ negated (meaning_of e part)
+pub meaning_of-Not : (e : Environment) (part : Expr) → meaning_of e (Not part) ≡ negation (meaning_of e part)
 unfolding meaning_of
 meaning_of-Not e part = fold-Not Meaning Linked (meaning_step e) link_step part
 
@@ -75,10 +75,10 @@ links_of-folds e (link ∷ links) =
     ∙ ap (λ others. (link.sign, meaning_of e link.right) ∷ others) (links_of-folds e links)
 
 pub meaning_of-Chain : (e : Environment) (first : Expr) (links : List Link2)
-    → meaning_of e (Chain first links) ≡ chained (meaning_of e first) (links_of e links)
+    → meaning_of e (Chain first links) ≡ chain_of (meaning_of e first) (links_of e links)
 unfolding meaning_of
 meaning_of-Chain e first links = fold-Chain Meaning Linked (meaning_step e) link_step first links
-    ∙ ap (chained (meaning_of e first)) (links_of-folds e links)
+    ∙ ap (chain_of (meaning_of e first)) (links_of-folds e links)
 
 pub ruleset meanings = (
   meaning_of-Truth,

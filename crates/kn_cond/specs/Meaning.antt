@@ -35,7 +35,7 @@ is_in_range n = int_le (negsuc 2147483647) n && int_le n (pos 2147483647)
 abbrev pub whole_in_range : ℤ → Meaning
 whole_in_range n = if is_in_range n then whole n else fault
 
--- a text of at most 65,536 bytes
+-- a text of at most 65,536 bytes (`TEXT_BYTES`)
 abbrev pub text_in_range : List ℕ → Meaning
 text_in_range bytes = if nat_lt 65536 (length bytes) then fault else text bytes
 
@@ -50,9 +50,9 @@ front_number (byte ∷ bytes) =
     if byte == 45 then neg_ℤ (pos (digits_value (front_digits bytes))) else pos
     (digits_value (front_digits (byte ∷ bytes)))
 
-abbrev pub negated : Meaning → Meaning
-negated (truth b) = truth (not b)
-negated meaning = fault
+abbrev pub negation : Meaning → Meaning
+negation (truth b) = truth (not b)
+negation meaning = fault
 
 abbrev pub minus : Meaning → Meaning
 minus (whole n) = whole_in_range (neg_ℤ n)
@@ -146,9 +146,9 @@ operation sign (text a) (text b) = operation_of_texts sign a b
 operation sign a b = fault
 
 -- a chain groups to the left
-abbrev pub chained : Meaning → List (Operation × Meaning) → Meaning
-chained first [] = first
-chained first (link ∷ links) = chained (operation link.0 first link.1) links
+abbrev pub chain_of : Meaning → List (Operation × Meaning) → Meaning
+chain_of first [] = first
+chain_of first (link ∷ links) = chain_of (operation link.0 first link.1) links
 
 -- the meaning of an expression whose parts have these
 abbrev pub meaning_step : Environment → Expr-F Meaning (Operation × Meaning) → Meaning
@@ -156,14 +156,14 @@ meaning_step e (Truth value) = truth value
 meaning_step e (Whole value) = whole value
 meaning_step e (Text value) = text value
 meaning_step e (Name name) = text_in_range (name_value e name)
-meaning_step e (Not part) = negated part
+meaning_step e (Not part) = negation part
 meaning_step e (Minus part) = minus part
 meaning_step e (Number part) = number_of part
 meaning_step e (Deref part) = value_named e part
 meaning_step e (And parts) = conjunction parts
 meaning_step e (Or parts) = disjunction parts
 meaning_step e (Compare sign left right) = comparison sign left right
-meaning_step e (Chain first links) = chained first links
+meaning_step e (Chain first links) = chain_of first links
 
 abbrev pub link_step : Link2-F Meaning (Operation × Meaning) → Operation × Meaning
 link_step link = (link.sign, link.right)

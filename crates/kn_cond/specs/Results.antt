@@ -1,8 +1,8 @@
 -- What the results of an evaluation mean.
 use Rattle.std.specs.Prelude.{ℤ, Option, Some, None}
 use Rattle.kn_cond.specs.Meaning.{Meaning, truth, whole, text, fault}
-use Rattle.kn_cond.specs.declared.results.Outcome.{Outcome}
-use Rattle.kn_cond.specs.declared.results.Outcome.TheVariants.{Truth, Whole, Text, Fault}
+use Rattle.kn_cond.specs.declared.outcome.Outcome.{Outcome}
+use Rattle.kn_cond.specs.declared.outcome.Outcome.TheVariants.{Truth, Whole, Text, Fault}
 
 abbrev pub meant : Outcome → Meaning
 meant (Truth value) = truth value

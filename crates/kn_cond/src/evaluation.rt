@@ -1,24 +1,24 @@
 //! The value of an expression.
 ghost use Rattle.std.specs.Prelude.{◌≡◌, true, map, ◌++◌, IfOk, IfErr};
 ghost use Rattle.std.specs.List.{list_any};
-ghost use Rattle.kn_cond.specs.Meaning.{Meaning, whole, text, text_in_range, negated, minus, number_of, value_named};
+ghost use Rattle.kn_cond.specs.Meaning.{Meaning, whole, text, text_in_range, negation, minus, number_of, value_named};
 ghost use Rattle.kn_cond.specs.Meaning.{value_by, comparison, holds_of_texts};
-ghost use Rattle.kn_cond.specs.Meaning.{operation, operation_of_texts, chained, links_of, meaning_of};
+ghost use Rattle.kn_cond.specs.Meaning.{operation, operation_of_texts, chain_of, links_of, meaning_of};
 ghost use Rattle.kn_cond.specs.Results.{meant, or_fault};
 ghost use Rattle.kn_cond.specs.Joining.{is_join, joins, link_joins};
 
 use crate::numbers;
-use crate::results::Outcome;
+use crate::outcome::Outcome;
 use crate::texts::{Text, is_before};
 use kn_base::NoMemory;
 use kn_base::limits::TEXT_BYTES;
 use kn_env::{Env, is_attribute_name};
-use kn_trees::{Comparison, ExprRef, Form, Links, Operation, Parts};
+use kn_trees::{Comparison, ExprRef, Form, Links, Operands, Operation};
 use std::alloc::Global;
 
 /// What an expression gives in an environment. `Err`: out of memory for a joined text.
 #[cycle(outcomes)]
-#[tactic(auto, using(crate::proofs::Meanings::meanings, crate::proofs::Joined::joined, crate::proofs::Descent::depths))]
+#[tactic(auto, using(crate::proofs::Meanings::meanings, crate::proofs::JoinLaws::joined, crate::proofs::ExprDepths::depths))]
 pub(crate) fn outcome<'e>(
     alloc: Global,
     expr: ExprRef<'e>,
@@ -32,7 +32,7 @@ pub(crate) fn outcome<'e>(
         Form::Whole(value) => Ok(Outcome::Whole(value)),
         Form::Text(value) => Ok(Outcome::Text(Text::lent(value))),
         Form::Name(name) => Ok(in_range(env.value(name))),
-        Form::Not(part) => Ok(negated(outcome(alloc, part, env)?)),
+        Form::Not(part) => Ok(negation(outcome(alloc, part, env)?)),
         Form::Minus(part) => Ok(minus(outcome(alloc, part, env)?)),
         Form::Number(part) => Ok(number_of(outcome(alloc, part, env)?)),
         Form::Deref(part) => Ok(value_named(env, outcome(alloc, part, env)?)),
@@ -45,7 +45,7 @@ pub(crate) fn outcome<'e>(
         }
         Form::Chain { first, rest } => {
             let left = outcome(alloc, first, env)?;
-            chained(alloc, left, rest, env)
+            chain_of(alloc, left, rest, env)
         }
     }
 }
@@ -53,11 +53,11 @@ pub(crate) fn outcome<'e>(
 // What `&&` gives, where false is decisive, or `||`, where true is. It stops at the first part that is
 // that, or a fault.
 #[cycle(outcomes)]
-#[tactic(auto, using(crate::proofs::Descent::part_steps))]
+#[tactic(auto, using(crate::proofs::ExprDepths::part_steps))]
 fn value_of_parts<'e>(
     alloc: Global,
     decisive: bool,
-    parts: Parts<'e>,
+    parts: Operands<'e>,
     env: &'e Env<'e>,
 ) -> Result<Outcome<'e>, NoMemory>
     ensures value { IfOk result (λ outcome. meant outcome
@@ -76,15 +76,15 @@ fn value_of_parts<'e>(
 
 // What a chain gives whose first part gives this.
 #[cycle(outcomes)]
-#[tactic(auto, using(crate::proofs::Descent::link_steps))]
-fn chained<'e>(
+#[tactic(auto, using(crate::proofs::ExprDepths::link_steps))]
+fn chain_of<'e>(
     alloc: Global,
     first: Outcome<'e>,
     links: Links<'e>,
     env: &'e Env<'e>,
 ) -> Result<Outcome<'e>, NoMemory>
     ensures value { IfOk result (λ outcome. meant outcome
-        ≡ chained (meant first.entry) (links_of env.now links.entry)) }
+        ≡ chain_of (meant first.entry) (links_of env.now links.entry)) }
     ensures memory { IfErr result (λ none. list_any link_joins links.entry ≡ true) }
 {
     let mut left = first;
@@ -115,8 +115,8 @@ fn whole_or_fault<'e>(number: Option<i32>) -> Outcome<'e>
     }
 }
 
-fn negated(part: Outcome) -> Outcome
-    ensures { meant result ≡ negated (meant part.entry) }
+fn negation(part: Outcome) -> Outcome
+    ensures { meant result ≡ negation (meant part.entry) }
 {
     match part {
         Outcome::Truth(value) => Outcome::Truth(!value),

@@ -3,8 +3,8 @@
 
 mod evaluation;
 mod numbers;
+mod outcome;
 mod programs;
-mod results;
 mod texts;
 
 pub use programs::{conditions_value, field_value};

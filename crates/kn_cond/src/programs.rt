@@ -8,7 +8,7 @@ ghost use Rattle.kn_cond.specs.Programs.{value_of, where_true, highest};
 ghost use Rattle.kn_cond.specs.Programs.{program_value, clause_value, then_value, field_value};
 
 use crate::evaluation::outcome;
-use crate::results::Outcome;
+use crate::outcome::Outcome;
 use kn_base::NoMemory;
 use kn_env::Env;
 use kn_trees::{Clause, FlatExpr, Program, Then};
@@ -34,7 +34,7 @@ pub fn field_value<'e>(
 /// The value of a conditions program, by its index among the compliance values of the query (RFC 2704, section 4, the
 /// Conditions field). A fault of a test or a value is part of its meaning. `Err`: out of memory for a joined text.
 #[cycle(programs)]
-#[tactic(auto, using(crate::proofs::Valued::values, crate::proofs::Joined::joined))]
+#[tactic(auto, using(crate::proofs::ProgramValues::values, crate::proofs::JoinLaws::joined))]
 pub fn conditions_value<'e>(
     alloc: Global,
     program: &'e Program,
@@ -52,7 +52,7 @@ pub fn conditions_value<'e>(
 }
 
 #[cycle(programs)]
-#[tactic(auto, using(crate::proofs::Valued::values, crate::proofs::Joined::joined))]
+#[tactic(auto, using(crate::proofs::ProgramValues::values, crate::proofs::JoinLaws::joined))]
 fn clause_value<'e>(alloc: Global, clause: &'e Clause, env: &'e Env<'e>) -> Result<u8, NoMemory>
     ensures value { IfOk result (λ level. level ≡ clause_value env.now clause.now) }
     ensures within { IfOk result (λ level. 0 < length env.now.asked.values → level < length env.now.asked.values) }
@@ -65,7 +65,7 @@ fn clause_value<'e>(alloc: Global, clause: &'e Clause, env: &'e Env<'e>) -> Resu
 }
 
 #[cycle(programs)]
-#[tactic(auto, using(crate::proofs::Valued::values, crate::proofs::Joined::joined))]
+#[tactic(auto, using(crate::proofs::ProgramValues::values, crate::proofs::JoinLaws::joined))]
 fn then_value<'e>(alloc: Global, then: &'e Then, env: &'e Env<'e>) -> Result<u8, NoMemory>
     ensures value { IfOk result (λ level. level ≡ then_value env.now then.now) }
     ensures within { IfOk result (λ level. 0 < length env.now.asked.values → level < length env.now.asked.values) }

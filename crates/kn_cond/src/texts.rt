@@ -37,7 +37,7 @@ impl<'e> Text<'e> {
         }
     }
 
-    fn owned(bytes: Octets) -> Text<'e>
+    fn of_octets(bytes: Octets) -> Text<'e>
         ensures { result ≡ bytes }
     {
         Text {
@@ -69,7 +69,7 @@ impl<'e> Text<'e> {
     {
         let mut octets = self.into_octets(alloc)?;
         octets.extend(more)?;
-        Ok(Text::owned(octets))
+        Ok(Text::of_octets(octets))
     }
 }
 

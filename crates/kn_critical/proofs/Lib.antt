@@ -1,7 +1,7 @@
 pub mod Ids
 pub mod Rows
 pub mod Flags
-pub mod Fewer
-pub mod Whole
-pub mod Decided
-pub mod Found
+pub mod LevelsWithout
+pub mod BasesWithout
+pub mod CriticalByLevels
+pub mod CriticalSoFar

@@ -55,4 +55,5 @@ AreUncritical asked parts start end = (row : ℕ) → start ≤ row → row < en
 
 -- this tells whether the assertion of this row is critical
 abbrev pub DecidesCritical : Asked → List Part → ℕ → Bool → Type 0
-DecidesCritical asked parts row told = (id : Id) → HasRow parts id row → Decides told (IsCritical asked parts id)
+DecidesCritical asked parts row critical = (id : Id) → HasRow parts id row
+    → Decides critical (IsCritical asked parts id)

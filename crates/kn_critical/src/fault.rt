@@ -1,8 +1,8 @@
-//! Why the critical assertions of a query aren't told.
+//! Why the critical assertions of a query aren't given.
 
 use kn_base::NoMemory;
 
-/// Why the critical assertions of a query aren't told (keynoted's own).
+/// Why the critical assertions of a query aren't given (keynoted's own).
 #[derive(Clone, Copy, PartialEq, Eq, Drop)]
 pub enum CriticalFault {
     /// Fault 1: the assertions' formulas have `nodes` nodes together, more than 16,384.

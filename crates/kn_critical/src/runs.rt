@@ -41,6 +41,7 @@ pub(crate) fn clear_rows<V: ConditionValues>(
 {
     every_query_has_a_level();
     unnamed_is_not_critical();
+    // The contract of `len` says that the length is a `u32`, so the ends of all runs fit one.
     let _rows = question.list.len();
     let mut count = limit;
     while count > 0 {

@@ -52,6 +52,7 @@ pub fn find_critical(
         ⊎ (critical_fault (equation_nodes (equations_over query.now list.now)) ≡ Some f)) }
 {
     bases_have_nodes();
+    // The contract of `requesters` says that there are 64 at most, each of 1 to 4,096 bytes, and none `POLICY`.
     let _requesters = query.requesters();
     let mut base = Base::of(alloc, list)?;
     let nodes = base.nodes();
@@ -93,7 +94,7 @@ fn search<P: Picked>(
 // How far a search has come.
 #[derive(Clone, Copy, Drop)]
 struct Gallop {
-    // No row before this one is critical, of those that are still to be told.
+    // No row before this one is critical, of those that are still to be named.
     cleared: u32,
     // How many rows are tried at once the next time.
     length: u32,

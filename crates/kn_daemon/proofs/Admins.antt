@@ -20,9 +20,10 @@ use Rattle.kn_reply.specs.Replies.{Reply, Added, Batched, No, NoMemory}
 use Rattle.kn_daemon.specs.Shapes.{AddText, ApplyBlock, Look, ForNew, ForOpen, ForRetained, ForStanding, ForLog}
 use Rattle.kn_daemon.specs.Shapes.{Question, WithProof, WithCritical, ToKeep, ShowSecret, Leave, Shape, Calls, Updates}
 use Rattle.kn_daemon.specs.Shapes.{Looks, Asks, Controls, AtFault}
-use Rattle.kn_daemon.specs.Daemon.{Grounds, State, refuse_if, is_secret, refusal_of_reading, refusal_of_verdict}
+use Rattle.kn_daemon.specs.Daemon.{DaemonConfig, State, refuse_if, is_secret, refusal_of_reading, refusal_of_verdict}
 use Rattle.kn_daemon.specs.Daemon.{item_refusal, found_item, refusal_from, refusal_of_block, refusal_of_update}
-use Rattle.kn_daemon.specs.Daemon.{own_refusal, pinned_to, looked, kept, questioned, Does, Permits}
+use Rattle.kn_daemon.specs.Daemon.{own_refusal, pinned_to, state_after_look, state_keeping, state_after_question, Does}
+use Rattle.kn_daemon.specs.Daemon.{Permits}
 use Rattle.kn_daemon.specs.PermissionLaws.{OthersAreRefused, SecretMakesAdmin, AdminStays, AddedIsAdmitted}
 use Rattle.kn_daemon.specs.PermissionLaws.{BatchIsAdmitted}
 use Rattle.kn_daemon.proofs.Reading.{by_assertion}
@@ -38,7 +39,8 @@ others-refused g state update n none = (
 
 -- What leaves an administrator as it was.
 
-looked-admin : (past : List Update) (state : State) (look : Look) → (looked past state look).is_admin ≡ state.is_admin
+looked-admin : (past : List Update) (state : State) (look : Look)
+    → (state_after_look past state look).is_admin ≡ state.is_admin
 looked-admin past state ForNew = refl
 looked-admin past state (ForOpen s) = refl
 looked-admin past state (ForRetained s version) = by (retained_version past version)
@@ -50,12 +52,12 @@ looked-admin past state (ForStanding s) = refl
 looked-admin past state (ForLog n) = refl
 
 questioned-admin : (state : State) (question : Question) (s : ℕ) (names : List ℕ)
-    → (questioned state question s names).is_admin ≡ state.is_admin
+    → (state_after_question state question s names).is_admin ≡ state.is_admin
 questioned-admin state WithProof s names = refl
 questioned-admin state WithCritical s names = refl
 questioned-admin state ToKeep s names = by (values_of names)
   where
-    by : (o : Option (List (List ℕ))) → (kept state s o).is_admin ≡ state.is_admin
+    by : (o : Option (List (List ℕ))) → (state_keeping state s o).is_admin ≡ state.is_admin
     by None = refl
     by (Some values) = refl
 
@@ -74,7 +76,7 @@ shown secret bytes = by (nat_lt 0 (length secret)) refl (bytes_eq secret bytes) 
     by true some false same e = absurd (cc e)
     by false some b same e = absurd (cc e)
 
-module _ (g : Grounds) (caller : ℕ) (past : List Update) (old : State) where
+module _ (g : DaemonConfig) (caller : ℕ) (past : List Update) (old : State) where
   shows : (shape : Shape) (reply : Reply) (new : State) → Does g caller past old shape reply new
       → old.is_admin ≡ false → new.is_admin ≡ true → (shape ≡ Controls (ShowSecret g.secret)) × (g.secret ≢ [])
   shows (Calls s call) reply new d before after =
@@ -136,7 +138,7 @@ added-admitted g caller past old text k version new assertion p reads =
     no-fault (g.verdict text assertion)
     (sym (ap (λ r. refusal_of_reading r admits) (by_assertion (reading_of text) assertion reads)) ∙ none)
 
-each-admitted : (g : Grounds) (n : ℕ) (items : List BatchItem) → refusal_from g n items ≡ None
+each-admitted : (g : DaemonConfig) (n : ℕ) (items : List BatchItem) → refusal_from g n items ≡ None
     → AllByRecursion (λ item. item_refusal g item ≡ None) items
 each-admitted g n [] e = tt
 each-admitted g n (item ∷ items) e = by (item_refusal g item) refl (each-admitted g (n + 1) items) e

@@ -14,7 +14,7 @@ batch-tells_ids g caller past old block first added version new p =
     let b : IsBatchCommitted caller past (map item_of items) (Batched first added version) = p.answered.2 in
     let next = additions (all_changes b.before) + 1 in
     let told : Batched first added version
-    ≡ Batched next (additions (numbered_from next (map item_of items))) (length past) = b.told in (
+    ≡ Batched next (additions (numbered_from next (map item_of items))) (length past) = b.exact in (
       record {
         before = b.before;
         update = batch_by caller next (map item_of items);

@@ -10,8 +10,9 @@ use Rattle.kn_history.specs.Retained.{retained_version}
 use Rattle.kn_reply.specs.declared.refusal.Refusal.{Refusal}
 use Rattle.kn_wire.specs.Requests.{Request}
 use Rattle.kn_reply.specs.Replies.{Reply, No, NoMemory}
-use Rattle.kn_daemon.specs.Daemon.{Grounds, State, first_state, with_session, own_refusal, pinned_to, looked, kept}
-use Rattle.kn_daemon.specs.Daemon.{questioned, controlled, changed, Does, Permits}
+use Rattle.kn_daemon.specs.Daemon.{DaemonConfig, State, first_state, with_session, own_refusal, pinned_to}
+use Rattle.kn_daemon.specs.Daemon.{state_after_look, state_keeping}
+use Rattle.kn_daemon.specs.Daemon.{state_after_question, state_after_control, state_after, Does, Permits}
 use Rattle.kn_daemon.specs.Played.{after_request, played}
 use Rattle.kn_session.specs.Sessions.{Session, started_session}
 use Rattle.kn_session.specs.Calls.{Call, add_requester, is_named, after_call}
@@ -78,7 +79,7 @@ made-called n s (C.Auth text) xs h = made-map (λ x. x.number == s) _ n (request
 made-called n s call xs h = made-map (λ x. x.number == s) _ n (λ x. omega arith) xs h
 
 few-looked : (n : ℕ) (past : List Update) (state : State) (look : Look) → AreFew n state
-    → AreFew (n + 1) (looked past state look)
+    → AreFew (n + 1) (state_after_look past state look)
 few-looked n past state ForNew few =
     let s = few.started in
     record {
@@ -88,30 +89,30 @@ few-looked n past state ForNew few =
 few-looked n past state (ForOpen s) few = few-with n state s _ (λ x. omega arith) few
 few-looked n past state (ForRetained s version) few = by (retained_version past version)
   where
-    by : (kept : Option (List Update)) → AreFew (n + 1) (pinned_to state s kept)
+    by : (state_keeping : Option (List Update)) → AreFew (n + 1) (pinned_to state s state_keeping)
     by None = few-more n state few
-    by (Some kept) = few-with n state s _ (λ x. omega arith) few
+    by (Some state_keeping) = few-with n state s _ (λ x. omega arith) few
 few-looked n past state (ForStanding s) few = few-with n state s _ (λ x. omega arith) few
 few-looked n past state (ForLog count) few = few-more n state few
 
 few-questioned : (n : ℕ) (state : State) (question : Question) (s : ℕ) (names : List ℕ) → AreFew n state
-    → AreFew (n + 1) (questioned state question s names)
+    → AreFew (n + 1) (state_after_question state question s names)
 few-questioned n state WithProof s names few = few-more n state few
 few-questioned n state WithCritical s names few = few-more n state few
 few-questioned n state ToKeep s names few = by (values_of names)
   where
-    by : (values : Option (List (List ℕ))) → AreFew (n + 1) (kept state s values)
+    by : (values : Option (List (List ℕ))) → AreFew (n + 1) (state_keeping state s values)
     by None = few-more n state few
     by (Some values) = few-with n state s _ (λ x. omega arith) few
 
 few-controlled : (n : ℕ) (state : State) (control : Control) → AreFew n state
-    → AreFew (n + 1) (controlled state control)
+    → AreFew (n + 1) (state_after_control state control)
 few-controlled n state (ShowSecret bytes) few =
     let s = few.started in record { started = omega (arith, s); made = made-more n state.sessions few.made }
 few-controlled n state Leave few = few-more n state few
 
 few-changed : (n : ℕ) (past : List Update) (state : State) (shape : Shape) → AreFew n state
-    → AreFew (n + 1) (changed past state shape)
+    → AreFew (n + 1) (state_after past state shape)
 few-changed n past state (Calls s call) few =
     let l = few.started in record { started = omega (arith, l); made = made-called n s call state.sessions few.made }
 few-changed n past state (Looks look) few = few-looked n past state look few
@@ -119,18 +120,20 @@ few-changed n past state (Asks question s names) few = few-questioned n state qu
 few-changed n past state (Controls control) few = few-controlled n state control few
 few-changed n past state shape few = few-more n state few
 
-few-does : (n : ℕ) (g : Grounds) (caller : ℕ) (past : List Update) (old : State) (shape : Shape) (reply : Reply)
+few-does : (n : ℕ) (g : DaemonConfig) (caller : ℕ) (past : List Update) (old : State) (shape : Shape) (reply : Reply)
     (new : State) → AreFew n old → Does g caller past old shape reply new → AreFew (n + 1) new
 few-does n g caller past old shape reply new few d =
     subst (AreFew (n + 1)) (sym d.next) (few-changed n past old shape few)
 
-few-permitted : (n : ℕ) (g : Grounds) (caller : ℕ) (past : List Update) (old : State) (shape : Shape) (reply : Reply)
+few-permitted : (n : ℕ) (g : DaemonConfig) (caller : ℕ) (past : List Update) (old : State) (shape : Shape)
+    (reply : Reply)
     (new : State) → AreFew n old → Permits g caller past old shape reply new → AreFew (n + 1) new
 few-permitted n g caller past old shape (No refusal) new few h = subst (AreFew (n + 1)) (sym h.1) (few-more n old few)
 few-permitted n g caller past old shape NoMemory new few h = subst (AreFew (n + 1)) (sym h.1) (few-more n old few)
 few-permitted n g caller past old shape reply new few h = few-does n g caller past old shape reply new few h
 
-few-along : (n : ℕ) (g : Grounds) (caller : ℕ) (history : List Update) (old : State) (es : List Exchange) (new : State)
+few-along : (n : ℕ) (g : DaemonConfig) (caller : ℕ) (history : List Update) (old : State) (es : List Exchange)
+    (new : State)
     → AreFew n old → Along g caller history old es new → AreFew (n + length es) new
 few-along n g caller history old [] new few along =
     subst (λ k. AreFew k new) (sym (add-zero n)) (subst (AreFew n) (sym along) few)
@@ -150,7 +153,7 @@ made-found n s (x ∷ xs) session h e = by (x.number == s) e (made-found n s xs 
     by true e rest = let first = h.0 in let same : x ≡ session = cc in subst (λ y. y.made ≤ n) same first
     by false e rest = rest e
 
-pub small : (g : Grounds) (taken written : List ℕ) (history : List Update) (start caller : ℕ) (stops : List ℕ)
+pub small : (g : DaemonConfig) (taken written : List ℕ) (history : List Update) (start caller : ℕ) (stops : List ℕ)
     (state : State) (held : Held) (answered : ℕ)
     → IsUnderway g taken written history start caller stops state held answered → IsSmall answered state
 small g taken written history start caller stops state held answered u =
@@ -165,16 +168,16 @@ small g taken written history start caller stops state held answered u =
 
 -- Playing.
 
-few-after : (n : ℕ) (g : Grounds) (past : List Update) (state : State) (request : Request) → AreFew n state
+few-after : (n : ℕ) (g : DaemonConfig) (past : List Update) (state : State) (request : Request) → AreFew n state
     → AreFew (n + 1) (after_request g past state request)
 few-after n g past state request few = by (own_refusal g state (shape_of request))
   where
     by : (o : Option Refusal)
-        → AreFew (n + 1) (option_map_or (λ refusal. state) o (changed past state (shape_of request)))
+        → AreFew (n + 1) (option_map_or (λ refusal. state) o (state_after past state (shape_of request)))
     by None = few-changed n past state (shape_of request) few
     by (Some refusal) = few-more n state few
 
-few-played : (n : ℕ) (g : Grounds) (past : List Update) (state : State) (requests : List Request) → AreFew n state
+few-played : (n : ℕ) (g : DaemonConfig) (past : List Update) (state : State) (requests : List Request) → AreFew n state
     → AreFew (n + length requests) (played g past state requests)
 few-played n g past state [] few = subst (λ k. AreFew k state) (sym (add-zero n)) few
 few-played n g past state (request ∷ requests) few =
@@ -184,7 +187,7 @@ few-played n g past state (request ∷ requests) few =
     subst (λ k. AreFew k (played g past (after_request g past state request) requests)) (omega arith) rest
 
 -- so many requests that are played start at most as many sessions, and add at most as many private assertions to each
-pub played-small : (g : Grounds) (past : List Update) (requests : List Request)
+pub played-small : (g : DaemonConfig) (past : List Update) (requests : List Request)
     → IsSmall (length requests) (played g past first_state requests)
 played-small g past requests =
     let size : 0 + length requests ≡ length requests = omega arith in

@@ -21,11 +21,13 @@ use Rattle.kn_daemon.specs.Shapes.{Look, ForNew, ForOpen, ForRetained, ForStandi
 use Rattle.kn_daemon.specs.Shapes.{WithCritical, ToKeep, ShowSecret, Leave, Shape, Calls, Updates, Looks, Asks}
 use Rattle.kn_daemon.specs.Shapes.{Controls}
 use Rattle.kn_daemon.specs.Shapes.{AtFault}
-use Rattle.kn_daemon.specs.Daemon.{Grounds, State, session_of, refuse_if, placed_refusal, pinned_to, looked, kept}
-use Rattle.kn_daemon.specs.Daemon.{questioned, reply_of_call, IsLooked, Does, Permits}
+use Rattle.kn_daemon.specs.Daemon.{DaemonConfig, State, session_of, refuse_if, placed_refusal, pinned_to}
+use Rattle.kn_daemon.specs.Daemon.{state_after_look, state_keeping}
+use Rattle.kn_daemon.specs.Daemon.{state_after_question, reply_of_call, IsLooked, Does, Permits}
 use Rattle.kn_daemon.specs.Linearized.{requests_in}
 use Rattle.kn_daemon.specs.Served.{IsServed, is_bye}
-use Rattle.kn_daemon.specs.PermissionLaws.{OpenIsNew, StartedNeverFalls, CloseEnds, UnwatchEnds, RefusedLookIsNotTold}
+use Rattle.kn_daemon.specs.PermissionLaws.{OpenIsNew, StartedNeverFalls, CloseEnds, UnwatchEnds}
+use Rattle.kn_daemon.specs.PermissionLaws.{RefusedLookIsNotReported}
 use Rattle.kn_daemon.specs.PermissionLaws.{NothingBehindBye}
 
 both : true ≡ false → ⊥
@@ -37,7 +39,8 @@ open-new g caller past old s version new p =
     let number : s ≡ old.started + 1 = cc told in
     (number, ap (λ x. x.started) p.next ∙ sym number, cc told)
 
-looked-started : (past : List Update) (state : State) (look : Look) → state.started ≤ (looked past state look).started
+looked-started : (past : List Update) (state : State) (look : Look)
+    → state.started ≤ (state_after_look past state look).started
 looked-started past state ForNew = omega arith
 looked-started past state (ForOpen s) = omega arith
 looked-started past state (ForRetained s version) = by (retained_version past version)
@@ -49,16 +52,16 @@ looked-started past state (ForStanding s) = omega arith
 looked-started past state (ForLog n) = omega arith
 
 questioned-started : (state : State) (question : Question) (s : ℕ) (names : List ℕ)
-    → state.started ≤ (questioned state question s names).started
+    → state.started ≤ (state_after_question state question s names).started
 questioned-started state WithProof s names = omega arith
 questioned-started state WithCritical s names = omega arith
 questioned-started state ToKeep s names = by (values_of names)
   where
-    by : (o : Option (List (List ℕ))) → state.started ≤ (kept state s o).started
+    by : (o : Option (List (List ℕ))) → state.started ≤ (state_keeping state s o).started
     by None = omega arith
     by (Some values) = omega arith
 
-module _ (g : Grounds) (caller : ℕ) (past : List Update) (old : State) where
+module _ (g : DaemonConfig) (caller : ℕ) (past : List Update) (old : State) where
   abbrev NoFewer : State → Type 0
   NoFewer state = old.started ≤ state.started
 
@@ -118,7 +121,7 @@ ahead n length refusal due = by (nat_lt length n) refl
     by true is e within = let above : length < n = ltb-true length n is in absurd (omega (arith, above, within))
     by false is e within = absurd (cc e)
 
-pub refused-look_not_told : RefusedLookIsNotTold
+pub refused-look_not_told : RefusedLookIsNotReported
 refused-look_not_told past old ForNew refusal reply e a = absurd (cc e)
 refused-look_not_told past old (ForOpen s) refusal reply e a = absurd (cc e)
 refused-look_not_told past old (ForStanding s) refusal reply e a = absurd (cc e)

@@ -3,9 +3,9 @@ use Rattle.std.proofs.Common.{ℕ, ◌≡◌, ◌≤◌, List, length}
 use Rattle.kn_history.specs.declared.update.Update.{Update}
 use Rattle.kn_reply.specs.Replies.{Log}
 use Rattle.kn_daemon.specs.Shapes.{ForLog, Looks}
-use Rattle.kn_daemon.specs.Daemon.{Grounds, State, Permits}
+use Rattle.kn_daemon.specs.Daemon.{DaemonConfig, State, Permits}
 
-pub log-of-place : (g : Grounds) (caller : ℕ) (past : List Update) (old : State) (n m : ℕ) (history : List Update)
+pub log-of-place : (g : DaemonConfig) (caller : ℕ) (past : List Update) (old : State) (n m : ℕ) (history : List Update)
     (new : State)
     → Permits g caller past old (Looks (ForLog n)) (Log m history) new
     → (m ≡ n) × (history ≡ past) × (n ≤ length past) × (new ≡ old)

@@ -5,7 +5,7 @@ use Rattle.kn_wire.specs.Requests.{Request}
 use Rattle.kn_daemon.specs.Shapes.{WithProof, Shape, Asks, shape_of}
 use Rattle.kn_session.specs.Sessions.{Session}
 use Rattle.kn_daemon.specs.Daemon.{State, first_state}
-use Rattle.kn_daemon.specs.Played.{no_grounds, played, AsksOf, IsAsking, IsMeant}
+use Rattle.kn_daemon.specs.Played.{no_config, played, AsksOf, IsAsking, IsLastQuery}
 
 -- what is asked has one session and one list of values
 asking-one : (state : State) (shape : Shape) (session other : Session) (values others : List (List ℕ))
@@ -63,13 +63,14 @@ cuts (z ∷ front) x behind (w ∷ later) y rest e = by (cuts front x behind lat
         }))
 
 pub one_meant : (history : List Update) (requests : List Request) (session other : Session)
-    (values others : List (List ℕ)) → IsMeant history requests session values → IsMeant history requests other others
+    (values others : List (List ℕ)) → IsLastQuery history requests session values
+    → IsLastQuery history requests other others
     → (session ≡ other) × (values ≡ others)
 one_meant history requests session other values others h k =
     by (cuts h.front h.query h.behind k.front k.query k.behind (sym h.cut ∙ k.cut))
   where
     state_at : List Request → State
-    state_at = played no_grounds history first_state
+    state_at = played no_config history first_state
 
     by : Cuts h.front h.query h.behind k.front k.query k.behind → (session ≡ other) × (values ≡ others)
     by (inl at) =

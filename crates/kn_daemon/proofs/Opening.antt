@@ -5,10 +5,10 @@ use Rattle.kn_wire.specs.Requests.{Open, Bye}
 use Rattle.kn_reply.specs.Replies.{Done, Started}
 use Rattle.kn_daemon.specs.declared.ended.Ended.TheVariants as E
 use Rattle.kn_daemon.specs.Shapes.{shape_of}
-use Rattle.kn_daemon.specs.Daemon.{Grounds, first_state, changed}
+use Rattle.kn_daemon.specs.Daemon.{DaemonConfig, first_state, state_after}
 use Rattle.kn_daemon.specs.Served.{IsServed}
 
-pub opening-is_served : (g : Grounds) (caller : ℕ)
+pub opening-is_served : (g : DaemonConfig) (caller : ℕ)
     → IsServed g (codes "OPEN\nBYE\n") (codes "OK 1 0\nOK\n") E.Done false [] 0 0 caller (0 ∷ [])
 unfolding digits
 opening-is_served g caller =
@@ -17,12 +17,12 @@ opening-is_served g caller =
           record { request = Open; reply = Started 1 0; place = 0 } ∷ record { request = Bye; reply = Done; place = 0 }
           ∷ [];
       rest = [];
-      last = changed [] first_state (shape_of Open);
+      last = state_after [] first_state (shape_of Open);
       requests = (codes "BYE\n", refl, ([], refl, refl));
       replies = (
-        changed [] first_state (shape_of Open),
+        state_after [] first_state (shape_of Open),
         record { accepted = refl; answered = refl; next = refl },
-        (changed [] first_state (shape_of Open), record { accepted = refl; answered = refl; next = refl }, refl),
+        (state_after [] first_state (shape_of Open), record { accepted = refl; answered = refl; next = refl }, refl),
       );
       places = record {
         valid = refl;

@@ -10,8 +10,8 @@ use Rattle.kn_session.specs.Sessions.{Session, session_in, with_changed, fault_i
 use Rattle.kn_session.proofs.StandingQueries.{found_here}
 use Rattle.kn_reply.specs.Replies.{Number, PinnedAt}
 use Rattle.kn_daemon.specs.Shapes.{ForOpen, ForRetained, Looks}
-use Rattle.kn_daemon.specs.Daemon.{Grounds, State, session_of, refusal_by, pinned_to, Permits}
-use Rattle.kn_daemon.specs.PermissionLaws.{PinIsTold, RetainedPinIsTold}
+use Rattle.kn_daemon.specs.Daemon.{DaemonConfig, State, session_of, refusal_by, pinned_to, Permits}
+use Rattle.kn_daemon.specs.PermissionLaws.{PinIsReported, RetainedPinIsReported}
 
 -- a session that isn't refused is open
 pub was-open : (s : ℕ) (P : Session → Type 0) (o : Option Session) → refusal_by (fault_in s o (λ x. None)) ≡ None
@@ -43,7 +43,7 @@ no-later past n = by (nat_le n (length past)) refl (nat_lt (length past) (n + RE
     by true is b there = leb-true n (length past) is
     by false is b there = absurd (cc there)
 
-pub pin-told : PinIsTold
+pub pin-told : PinIsReported
 pin-told g caller past old s version new p =
     let told : Number version ≡ Number (length past) = p.answered in (
       cc told,
@@ -51,7 +51,7 @@ pin-told g caller past old s version new p =
           (λ x found. pinned-here old new s past x p.next found),
     )
 
-pub retained-pin_told : RetainedPinIsTold
+pub retained-pin_told : RetainedPinIsReported
 retained-pin_told g caller past old s n version newest new p =
     let there : IsSome (retained_version past n) = p.answered.0 in
     let told : PinnedAt version newest ≡ PinnedAt n (length past) = p.answered.1 in

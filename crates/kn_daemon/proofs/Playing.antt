@@ -10,19 +10,19 @@ use Rattle.kn_reply.specs.declared.refusal.Refusal.TheVariants as R
 use Rattle.kn_history.specs.Retained.{retained_version}
 use Rattle.kn_daemon.specs.Shapes.{Look, ForNew, ForOpen, ForRetained, ForStanding, ForLog, Shape, Updates, Looks}
 use Rattle.kn_daemon.specs.Shapes.{shape_of}
-use Rattle.kn_daemon.specs.Daemon.{Grounds, State, refuse_if, own_refusal, placed_refusal, placed_refusal_of_look}
-use Rattle.kn_daemon.specs.Daemon.{first_refusal, pinned_to, looked, changed, Does, Permits}
+use Rattle.kn_daemon.specs.Daemon.{DaemonConfig, State, refuse_if, own_refusal, placed_refusal, placed_refusal_of_look}
+use Rattle.kn_daemon.specs.Daemon.{first_refusal, pinned_to, state_after_look, state_after, Does, Permits}
 use Rattle.kn_daemon.specs.Linearized.{Exchange, Along, requests_in}
 use Rattle.kn_daemon.specs.Played.{after_request, played}
 
-accepted : (g : Grounds) (caller : ℕ) (past : List Update) (old : State) (request : Request) (reply : Reply)
+accepted : (g : DaemonConfig) (caller : ℕ) (past : List Update) (old : State) (request : Request) (reply : Reply)
     (new : State) → Does g caller past old (shape_of request) reply new → new ≡ after_request g past old request
 accepted g caller past old request reply new d =
-    d.next ∙ ap (λ o. option_map_or (λ refusal. old) o (changed past old (shape_of request))) (sym d.accepted)
+    d.next ∙ ap (λ o. option_map_or (λ refusal. old) o (state_after past old (shape_of request))) (sym d.accepted)
 
 -- a look for which the history hasn't what is asked changes no state
 refused-look : (past : List Update) (old : State) (look : Look) (refusal : Refusal)
-    → placed_refusal_of_look past look ≡ Some refusal → old ≡ looked past old look
+    → placed_refusal_of_look past look ≡ Some refusal → old ≡ state_after_look past old look
 refused-look past old ForNew refusal e = absurd (cc (e))
 refused-look past old (ForOpen s) refusal e = absurd (cc (e))
 refused-look past old (ForRetained s version) refusal e = by (retained_version past version) e
@@ -35,28 +35,28 @@ refused-look past old (ForStanding s) refusal e = absurd (cc (e))
 refused-look past old (ForLog n) refusal e = refl
 
 -- a request that the history refuses changes no state
-refused : (g : Grounds) (past : List Update) (old : State) (request : Request) (refusal : Refusal)
+refused : (g : DaemonConfig) (past : List Update) (old : State) (request : Request) (refusal : Refusal)
     → first_refusal g past old (shape_of request) ≡ Some refusal → old ≡ after_request g past old request
 refused g past old request refusal h = by (own_refusal g old (shape_of request)) h
   where
-    placed : (shape : Shape) → placed_refusal past shape ≡ Some refusal → old ≡ changed past old shape
+    placed : (shape : Shape) → placed_refusal past shape ≡ Some refusal → old ≡ state_after past old shape
     placed (Updates update) e = refl
     placed (Looks look) e = refused-look past old look refusal e
     placed shape e = absurd (cc (e))
 
     by : (own : Option Refusal) → option_or own (placed_refusal past (shape_of request)) ≡ Some refusal
-        → old ≡ option_map_or (λ refusal. old) own (changed past old (shape_of request))
+        → old ≡ option_map_or (λ refusal. old) own (state_after past old (shape_of request))
     by (Some first) e = refl
     by None e = placed (shape_of request) e
 
-pub permitted-is_played : (g : Grounds) (caller : ℕ) (past : List Update) (old : State) (request : Request)
+pub permitted-is_played : (g : DaemonConfig) (caller : ℕ) (past : List Update) (old : State) (request : Request)
     (reply : Reply) (new : State)
     → Permits g caller past old (shape_of request) reply new → reply ≢ NoMemory → new ≡ after_request g past old request
 permitted-is_played g caller past old request (No refusal) new h some = h.1 ∙ refused g past old request refusal h.0
 permitted-is_played g caller past old request NoMemory new h some = absurd (some refl)
 permitted-is_played g caller past old request reply new h some = accepted g caller past old request reply new h
 
-pub along-is_played : (g : Grounds) (caller : ℕ) (history : List Update) (old : State) (es : List Exchange)
+pub along-is_played : (g : DaemonConfig) (caller : ℕ) (history : List Update) (old : State) (es : List Exchange)
     (new : State) → Along g caller history old es new
     → All (λ e. e.place ≡ length history) es → All (λ e. e.reply ≢ NoMemory) es
     → new ≡ played g history old (requests_in es)

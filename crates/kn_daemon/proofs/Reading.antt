@@ -12,7 +12,8 @@ use Rattle.kn_session.specs.declared.fault.CallFault.{CallFault}
 use Rattle.kn_session.specs.declared.fault.CallFault.TheVariants as T
 use Rattle.kn_session.specs.Calls.{text_fault}
 use Rattle.kn_wire.specs.Items.{AddText}
-use Rattle.kn_daemon.specs.Daemon.{Grounds, refusal_of_reading, refusal_at_reading, refusal_at_verdict, item_refusal}
+use Rattle.kn_daemon.specs.Daemon.{DaemonConfig, refusal_of_reading, refusal_at_reading, refusal_at_verdict}
+use Rattle.kn_daemon.specs.Daemon.{item_refusal}
 
 by_fault : (r : Result Assertion ReadFault) (fault : ReadFault) → result_err r ≡ Some fault → r ≡ Err fault
 by_fault (Ok assertion) fault e = cc
@@ -33,13 +34,14 @@ pub reading-goes_on : (text : List ℕ) (assertion : Assertion) (next : Assertio
     → refusal_of_reading (reading_of text) next ≡ next assertion
 reading-goes_on text assertion next e = ap (λ r. refusal_of_reading r next) (by_assertion (reading_of text) assertion e)
 
-pub fault-refuses_item : (g : Grounds) (text : List ℕ) (fault : ReadFault) → fault_of text ≡ Some fault
+pub fault-refuses_item : (g : DaemonConfig) (text : List ℕ) (fault : ReadFault) → fault_of text ≡ Some fault
     → item_refusal g (AddText text) ≡ option_map (λ number. I.Read number (fault_place fault)) (fault_number fault)
 fault-refuses_item g text fault e =
     ap (λ r. refusal_at_reading I.Read r (λ a. refusal_at_verdict I.Auth (g.verdict text a)))
     (by_fault (reading_of text) fault e)
 
-pub reading-admits_item : (g : Grounds) (text : List ℕ) (assertion : Assertion) → assertion_of text ≡ Some assertion
+pub reading-admits_item : (g : DaemonConfig) (text : List ℕ) (assertion : Assertion)
+    → assertion_of text ≡ Some assertion
     → item_refusal g (AddText text) ≡ refusal_at_verdict I.Auth (g.verdict text assertion)
 reading-admits_item g text assertion e =
     ap (λ r. refusal_at_reading I.Read r (λ a. refusal_at_verdict I.Auth (g.verdict text a)))

@@ -28,7 +28,7 @@ use Rattle.kn_reply.specs.Replies.{No}
 use Rattle.kn_reply.specs.Logs.{item_of}
 use Rattle.kn_daemon.specs.Shapes.{Updating, AddText, DropId, ApplyBlock, Look, ForNew, ForOpen, ForRetained}
 use Rattle.kn_daemon.specs.Shapes.{ForStanding, ForLog, Shape, Calls, Updates, Looks, Asks, Controls, AtFault}
-use Rattle.kn_daemon.specs.Daemon.{Grounds, State, session_of, refuse_if, refusal_by, refusal_at_reading}
+use Rattle.kn_daemon.specs.Daemon.{DaemonConfig, State, session_of, refuse_if, refusal_by, refusal_at_reading}
 use Rattle.kn_daemon.specs.Daemon.{refusal_at_verdict, refusal_at_store, item_refusal, found_item, refusal_from}
 use Rattle.kn_daemon.specs.Daemon.{refusal_of_block, refusal_of_update, refusal_of_look, refusal_of_store}
 use Rattle.kn_daemon.specs.Daemon.{refusal_of_item_fault, refusal_of_batch, own_refusal, placed_refusal_of_update}
@@ -77,12 +77,13 @@ reading-each p t read auth at_read at_auth verdict (Err fault) = by (fault_numbe
     by None = tt
     by (Some n) = at_read n (fault_place fault)
 
-item-each : (g : Grounds) (item : BatchItem) → Each by_item false (item_refusal g item)
+item-each : (g : DaemonConfig) (item : BatchItem) → Each by_item false (item_refusal g item)
 item-each g (B.AddText text) =
     reading-each by_item false I.Read I.Auth (λ number place. refl) (λ number. refl) (g.verdict text) (reading_of text)
 item-each g (B.DropId k) = tt
 
-items-each : (g : Grounds) (number : ℕ) (items : List BatchItem) → Each by_update false (refusal_from g number items)
+items-each : (g : DaemonConfig) (number : ℕ) (items : List BatchItem)
+    → Each by_update false (refusal_from g number items)
 items-each g number [] = tt
 items-each g number (item ∷ items) = by (item_refusal g item) (item-each g item) (items-each g (number + 1) items)
   where
@@ -91,11 +92,11 @@ items-each g number (item ∷ items) = by (item_refusal g item) (item-each g ite
     by None h later = later
     by (Some inner) h later = h
 
-block-each : (g : Grounds) (items : Result (List BatchItem) ℕ) → Each by_update false (refusal_of_block g items)
+block-each : (g : DaemonConfig) (items : Result (List BatchItem) ℕ) → Each by_update false (refusal_of_block g items)
 block-each g (Ok items) = items-each g 1 items
 block-each g (Err number) = refl
 
-update-each : (g : Grounds) (update : Updating) → Each by_update false (refusal_of_update g update)
+update-each : (g : DaemonConfig) (update : Updating) → Each by_update false (refusal_of_update g update)
 update-each g (AddText text) =
     reading-each by_update false R.Read R.Auth (λ number place. refl) (λ number. refl) (g.verdict text)
     (reading_of text)
@@ -127,7 +128,7 @@ look-each state (ForRetained s version) = session-each s (session_of state s) (�
 look-each state (ForStanding s) = session-each s (session_of state s) standing_fault standing-each
 look-each state (ForLog n) = if-each by_look false (not state.is_admin) R.Admin None refl tt
 
-pub own-unplaced : (g : Grounds) (state : State) (shape : Shape) (refusal : Refusal)
+pub own-unplaced : (g : DaemonConfig) (state : State) (shape : Shape) (refusal : Refusal)
     → own_refusal g state shape ≡ Some refusal → is_placed shape (No refusal) ≡ false
 own-unplaced g state (Calls s call) refusal e = refl
 own-unplaced g state (Updates update) refusal e =

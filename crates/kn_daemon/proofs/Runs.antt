@@ -7,7 +7,7 @@ use Rattle.std.proofs.lemmas.List.Folds.{list_any-append}
 use Rattle.std.proofs.lemmas.Bool.{or_parts, or_from}
 use Rattle.kn_history.specs.declared.update.Update.{Update}
 use Rattle.kn_daemon.specs.Shapes.{shape_of}
-use Rattle.kn_daemon.specs.Daemon.{Grounds, State, Permits}
+use Rattle.kn_daemon.specs.Daemon.{DaemonConfig, State, Permits}
 use Rattle.kn_daemon.specs.Linearized.{Exchange, Along, InOrder, IsBehind, StopsAt, StandsFor, is_placed, update_of}
 
 -- places lie between the ends
@@ -31,7 +31,7 @@ order-push caller low [] high e h at = (by (update_of caller e) at, omega arith)
 order-push caller low (first ∷ es) high e h at = (h.0, order-push caller first.place es high e h.1 at)
 
 -- a longer history has the same parts up to its old end
-pub along-longer : (g : Grounds) (caller : ℕ) (history more : List Update) (low high : ℕ) (old : State)
+pub along-longer : (g : DaemonConfig) (caller : ℕ) (history more : List Update) (low high : ℕ) (old : State)
     (es : List Exchange) (new : State)
     → high ≤ length history → InOrder caller low es high → Along g caller history old es new
     → Along g caller (history ++ more) old es new
@@ -47,7 +47,8 @@ along-longer g caller history more low high old (e ∷ es) new within order (mid
           within order.1 later,
     )
 
-pub along-push : (g : Grounds) (caller : ℕ) (history : List Update) (old : State) (es : List Exchange) (mid : State)
+pub along-push : (g : DaemonConfig) (caller : ℕ) (history : List Update) (old : State) (es : List Exchange)
+    (mid : State)
     (e : Exchange) (new : State)
     → Along g caller history old es mid → Permits g caller (take e.place history) mid (shape_of e.request) e.reply new
     → Along g caller history old (es ++ e ∷ []) new

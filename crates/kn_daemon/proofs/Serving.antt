@@ -10,14 +10,14 @@ use Rattle.std.proofs.lemmas.List.Elements.{filter-append, filter_map-append}
 use Rattle.kn_wire.specs.declared.fault.WireFault.{WireFault}
 use Rattle.kn_wire.specs.declared.fault.WireFault.TheVariants as F
 use Rattle.kn_history.specs.declared.update.Update.{Update}
-use Rattle.kn_wire.specs.Requests.{Request, Content, BlockOf, DigitsOf, Plain, FaultOf, content_of, Bye, Faulty, Takes}
+use Rattle.kn_wire.specs.Requests.{Request, Content, BlockOf, HexOf, Plain, FaultOf, content_of, Bye, Faulty, Takes}
 use Rattle.kn_wire.specs.Requests.{first_of, is_newline}
 use Rattle.kn_reply.specs.Replies.{Reply, reply_text}
 use Rattle.kn_history.specs.History.{is_valid_history, own_updates}
 use Rattle.kn_daemon.specs.declared.ended.Ended.{Ended}
 use Rattle.kn_daemon.specs.declared.ended.Ended.TheVariants as E
 use Rattle.kn_daemon.specs.Shapes.{shape_of}
-use Rattle.kn_daemon.specs.Daemon.{Grounds, State, first_state, Permits}
+use Rattle.kn_daemon.specs.Daemon.{DaemonConfig, State, first_state, Permits}
 use Rattle.kn_daemon.specs.Linearized.{Exchange, Along, InOrder, IsBehind, StopsAt, update_of, update_by, requests_in}
 use Rattle.kn_daemon.specs.Linearized.{texts_in}
 use Rattle.kn_wire.specs.Feeding.{Held, Bytes, InLong, Shut, held_bytes, pushed, held_after, held_after_content}
@@ -25,7 +25,7 @@ use Rattle.kn_wire.specs.Feeding.{held_after_fault, next_of, is_shut}
 use Rattle.kn_daemon.specs.Served.{IsDrained, IsCut, IsWritten, HasEnd, IsServed, is_bye, is_block, is_block_content}
 use Rattle.kn_daemon.specs.Served.{is_block_fault}
 use Rattle.kn_daemon.specs.Underway.{IsUnderway, IsReplied}
-use Rattle.kn_daemon.specs.Laws.{IsDry}
+use Rattle.kn_daemon.specs.Laws.{HasNoRequest}
 use Rattle.kn_wire.proofs.Growing.{no_request, same_first, next-grows, pushed-pushed, pushed-nothing, pushed-not_shut}
 use Rattle.kn_wire.proofs.Growing.{none-left}
 use Rattle.kn_wire.proofs.Readings.{takes-push}
@@ -65,7 +65,7 @@ not_shut-after text request left h = by_content (content_of request) h
     by_content : (content : Content) → is_block_content content ≡ false
         → is_shut (held_after_content text content left) ≡ false
     by_content (BlockOf block) h = refl
-    by_content (DigitsOf digits) h = refl
+    by_content (HexOf digits) h = refl
     by_content Plain h = refl
     by_content (FaultOf fault) h = by_fault fault h
 
@@ -87,7 +87,8 @@ next-not_shut (Bytes text) after request no_block goes_on e = by (first_of text)
 next-not_shut InLong after request no_block goes_on e = absurd (no_request (request, after) e)
 next-not_shut (Shut n) after request no_block goes_on e = cc
 
-module _ (g : Grounds) (taken written : List ℕ) (history more : List Update) (start caller : ℕ) (stops entries : List ℕ)
+module _ (g : DaemonConfig) (taken written : List ℕ) (history more : List Update) (start caller : ℕ)
+    (stops entries : List ℕ)
     (old new : State) (held after : Held) (answered : ℕ) (request : Request) (reply : Reply)
     (u : IsUnderway g taken written history start caller stops old held answered)
     (next : next_of held ≡ Some (request, after))
@@ -230,7 +231,7 @@ module _ (g : Grounds) (taken written : List ℕ) (history more : List Update) (
 
 -- Ends behind a last request.
 
-pub ends-by_bye : (g : Grounds) (taken written : List ℕ) (history more : List Update) (start caller : ℕ)
+pub ends-by_bye : (g : DaemonConfig) (taken written : List ℕ) (history more : List Update) (start caller : ℕ)
     (stops entries : List ℕ) (old new : State) (held after : Held) (answered : ℕ) (reply : Reply) (is_over : Bool)
     → IsUnderway g taken written history start caller stops old held answered → answered < 1000000
     → next_of held ≡ Some (Bye, after) → IsReplied g caller history more entries old (shape_of Bye) reply new
@@ -245,7 +246,7 @@ ends-by_bye g taken written history more start caller stops entries old new held
     (inl (last-all g taken written history more start caller stops entries old new held after answered Bye reply u next
     r))
 
-pub ends-by_block : (g : Grounds) (taken written : List ℕ) (history more : List Update) (start caller : ℕ)
+pub ends-by_block : (g : DaemonConfig) (taken written : List ℕ) (history more : List Update) (start caller : ℕ)
     (stops entries : List ℕ) (old new : State) (held after : Held) (answered n : ℕ) (reply : Reply) (is_over : Bool)
     → IsUnderway g taken written history start caller stops old held answered → answered < 1000000
     → next_of held ≡ Some (Faulty (F.Block n), after)
@@ -262,7 +263,7 @@ ends-by_block g taken written history more start caller stops entries old new he
     (last-all g taken written history more start caller stops entries old new held after answered
     (Faulty (F.Block n)) reply u next r)
 
-pub ends-by_write : (g : Grounds) (taken written : List ℕ) (history more : List Update) (start caller : ℕ)
+pub ends-by_write : (g : DaemonConfig) (taken written : List ℕ) (history more : List Update) (start caller : ℕ)
     (stops entries : List ℕ) (old new : State) (held after : Held) (answered at : ℕ) (request : Request) (reply : Reply)
     (is_over : Bool)
     → IsUnderway g taken written history start caller stops old held answered → answered < 1000000
@@ -281,7 +282,7 @@ ends-by_write g taken written history more start caller stops entries old new he
 
 -- The start, one more piece, and ends between requests.
 
-pub begins : (g : Grounds) (history : List Update) (caller : ℕ)
+pub begins : (g : DaemonConfig) (history : List Update) (caller : ℕ)
     → IsUnderway g [] [] history (length history) caller [] first_state (Bytes []) 0
 begins g history caller =
     record {
@@ -297,7 +298,8 @@ begins g history caller =
       bytes = refl;
     }
 
-pub takes-piece : (g : Grounds) (taken written : List ℕ) (history : List Update) (start caller : ℕ) (stops : List ℕ)
+pub takes-piece : (g : DaemonConfig) (taken written : List ℕ) (history : List Update) (start caller : ℕ)
+    (stops : List ℕ)
     (state : State) (held : Held) (answered : ℕ) (piece : List ℕ)
     → IsUnderway g taken written history start caller stops state held answered
     → IsUnderway g (taken ++ piece) written history start caller stops state (pushed held piece) answered
@@ -319,7 +321,7 @@ takes-piece g taken written history start caller stops state held answered piece
       bytes = u.bytes;
     }
 
-module _ (g : Grounds) (taken written : List ℕ) (history : List Update) (start caller : ℕ) (stops : List ℕ)
+module _ (g : DaemonConfig) (taken written : List ℕ) (history : List Update) (start caller : ℕ) (stops : List ℕ)
     (state : State) (held : Held) (answered : ℕ)
     (u : IsUnderway g taken written history start caller stops state held answered)
     (valid : is_valid_history history ≡ true) where
@@ -359,7 +361,7 @@ module _ (g : Grounds) (taken written : List ℕ) (history : List Update) (start
     fewer = let s = size-now in omega (arith, s, fewer);
   }
 
-  pub ends-dry : answered < 1000000 → next_of held ≡ None → IsDry g taken written history start caller stops held
+  pub ends-dry : answered < 1000000 → next_of held ≡ None → HasNoRequest g taken written history start caller stops held
   ends-dry fewer none =
       let within : answered ≤ 1000000 = omega (arith, fewer) in
       let dry = drained fewer none in
@@ -369,7 +371,8 @@ module _ (g : Grounds) (taken written : List ℕ) (history : List Update) (start
         by_cut = λ some. served-now (E.Cut (length (held_bytes held))) true within u.bytes (dry, refl, refl, some);
       }
 
-pub ends-by_budget : (g : Grounds) (taken written : List ℕ) (history : List Update) (start caller : ℕ) (stops : List ℕ)
+pub ends-by_budget : (g : DaemonConfig) (taken written : List ℕ) (history : List Update) (start caller : ℕ)
+    (stops : List ℕ)
     (state : State) (held : Held) (is_over : Bool)
     → IsUnderway g taken written history start caller stops state held 1000000 → is_valid_history history ≡ true
     → IsServed g taken written E.Budget is_over history start (length history) caller stops
@@ -378,7 +381,7 @@ ends-by_budget g taken written history start caller stops state held is_over u v
     (le_refl 1000000) u.bytes
     (size-now g taken written history start caller stops state held 1000000 u valid, u.goes_on)
 
-pub ends-by_memory : (g : Grounds) (history : List Update) (caller : ℕ) (is_over : Bool)
+pub ends-by_memory : (g : DaemonConfig) (history : List Update) (caller : ℕ) (is_over : Bool)
     → is_valid_history history ≡ true
     → IsServed g [] [] E.Memory is_over history (length history) (length history) caller []
 unfolding begins
@@ -387,7 +390,8 @@ ends-by_memory g history caller is_over valid =
     (begins g history caller) valid E.Memory is_over (omega arith) refl (refl, refl)
 
 -- a longer history
-pub served-longer : (g : Grounds) (taken written : List ℕ) (ended : Ended) (is_over : Bool) (history more : List Update)
+pub served-longer : (g : DaemonConfig) (taken written : List ℕ) (ended : Ended) (is_over : Bool)
+    (history more : List Update)
     (start end caller : ℕ) (stops : List ℕ)
     → is_valid_history (history ++ more) ≡ true → IsServed g taken written ended is_over history start end caller stops
     → IsServed g taken written ended is_over (history ++ more) start end caller stops

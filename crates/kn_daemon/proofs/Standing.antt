@@ -16,7 +16,8 @@ use Rattle.kn_reply.specs.Replies.{Reply, News, No, NoMemory}
 use Rattle.kn_daemon.specs.Shapes.{Look, ForNew, ForOpen, ForRetained, ForStanding, ForLog, Question, WithProof}
 use Rattle.kn_daemon.specs.Shapes.{WithCritical, ToKeep, Control, ShowSecret, Leave, Shape, Calls, Updates, Looks, Asks}
 use Rattle.kn_daemon.specs.Shapes.{Controls, AtFault}
-use Rattle.kn_daemon.specs.Daemon.{Grounds, State, session_of, pinned_to, looked, kept, questioned, controlled, changed}
+use Rattle.kn_daemon.specs.Daemon.{DaemonConfig, State, session_of, pinned_to, state_after_look, state_keeping}
+use Rattle.kn_daemon.specs.Daemon.{state_after_question, state_after_control, state_after}
 use Rattle.kn_daemon.specs.Daemon.{IsNews, Does, Permits}
 use Rattle.kn_daemon.specs.QuestionLaws.{standing_of}
 
@@ -52,7 +53,7 @@ standing-called s t C.Unwatch no_close no_end xs =
 standing-called s t call no_close no_end xs = calls_keep_standing xs t s call (λ e. cc e) (λ e. cc e)
 
 standing-looked : (past : List Update) (state : State) (look : Look) (t : ℕ) → Looks look ≢ Looks (ForStanding t)
-    → standing_of (looked past state look) t ≡ standing_of state t
+    → standing_of (state_after_look past state look) t ≡ standing_of state t
 standing-looked past state ForNew t other =
     standing-started t state.sessions (started_session (state.started + 1) past) refl
 standing-looked past state (ForOpen s) t other = pins_keep_standing state.sessions t s past
@@ -68,26 +69,26 @@ standing-looked past state (ForLog n) t other = refl
 
 standing-questioned : (state : State) (question : Question) (s : ℕ) (names : List ℕ) (t : ℕ)
     → ((text : List ℕ) → Asks question s names ≢ Asks ToKeep t text)
-    → standing_of (questioned state question s names) t ≡ standing_of state t
+    → standing_of (state_after_question state question s names) t ≡ standing_of state t
 standing-questioned state WithProof s names t other = refl
 standing-questioned state WithCritical s names t other = refl
 standing-questioned state ToKeep s names t other = by (values_of names)
   where
-    by : (o : Option (List (List ℕ))) → standing_of (kept state s o) t ≡ standing_of state t
+    by : (o : Option (List (List ℕ))) → standing_of (state_keeping state s o) t ≡ standing_of state t
     by None = refl
     by (Some values) =
         standing-other (watch_with values) (λ x. refl) state.sessions s t
         (λ e. other names (ap (λ k. Asks ToKeep k names) e))
 
 standing-controlled : (state : State) (control : Control) (t : ℕ)
-    → standing_of (controlled state control) t ≡ standing_of state t
+    → standing_of (state_after_control state control) t ≡ standing_of state t
 standing-controlled state (ShowSecret bytes) t = refl
 standing-controlled state Leave t = refl
 
-module _ (g : Grounds) (caller : ℕ) (past : List Update) (old : State) where
+module _ (g : DaemonConfig) (caller : ℕ) (past : List Update) (old : State) where
   standing-changed : (shape : Shape) (t : ℕ) → shape ≢ Calls t C.Close → shape ≢ Calls t C.Unwatch
       → ((names : List ℕ) → shape ≢ Asks ToKeep t names) → shape ≢ Looks (ForStanding t)
-      → standing_of (changed past old shape) t ≡ standing_of old t
+      → standing_of (state_after past old shape) t ≡ standing_of old t
   standing-changed (Calls s call) t no_close no_end no_watch no_news =
       standing-called s t call no_close no_end old.sessions
   standing-changed (Updates update) t no_close no_end no_watch no_news = refl
@@ -106,7 +107,7 @@ module _ (g : Grounds) (caller : ℕ) (past : List Update) (old : State) where
   standing-stays shape reply new t p no_close no_end no_watch no_news =
       ap (λ state. standing_of state t) (due reply p) ∙ standing-changed shape t no_close no_end no_watch no_news
     where
-      due : (r : Reply) → Does g caller past old shape r new → new ≡ changed past old shape
+      due : (r : Reply) → Does g caller past old shape r new → new ≡ state_after past old shape
       due r d = d.next
 
   -- NEWS moves the standing query to the version of its place, and tells it there
@@ -117,7 +118,7 @@ module _ (g : Grounds) (caller : ℕ) (past : List Update) (old : State) where
   news-of_place s index name version new p =
       let a = p.answered in
       let told : News index name version
-      ≡ News a.news.level (slice_index_or a.query.values a.news.level []) (length past) = a.news.told in
+      ≡ News a.news.level (slice_index_or a.query.values a.news.level []) (length past) = a.news.exact in
       let moved : standing_of new s ≡ option_map (query_at past) (standing_of old s) =
       ap (λ state. standing_of state s) p.next ∙ moves_version_alone old.sessions s past in
       let before : standing_of old s ≡ Some a.query = ap (option_and_then (λ x. x.standing)) a.found ∙ a.standing in
@@ -135,13 +136,13 @@ module _ (g : Grounds) (caller : ℕ) (past : List Update) (old : State) where
   watch-of_pin s names index name version new p =
       let a = p.answered in
       let told : News index name version
-      ≡ News a.answer.level (slice_index_or a.values a.answer.level []) (length a.session.pinned) = a.answer.told in
+      ≡ News a.answer.level (slice_index_or a.values a.answer.level []) (length a.session.pinned) = a.answer.exact in
       let at : version ≡ length a.session.pinned = cc told in
-      let changed : List Session = with_changed old.sessions s (watch_with a.values) in
-      let keeps : session_in changed s ≡ Some (watch_with a.values a.session) =
+      let state_after : List Session = with_changed old.sessions s (watch_with a.values) in
+      let keeps : session_in state_after s ≡ Some (watch_with a.values a.session) =
       found_here (watch_with a.values) (λ x. refl) old.sessions s ∙ ap (option_map (watch_with a.values)) a.found in
       let after : standing_of new s ≡ Some (query_with a.values a.session) =
-      ap (λ state. standing_of state s) (p.next ∙ ap (kept old s) a.named)
+      ap (λ state. standing_of state s) (p.next ∙ ap (state_keeping old s) a.named)
       ∙ ap (option_and_then (λ x. x.standing)) keeps in (
         subst (λ o. IsSomeAnd o (λ x. version ≡ length x.pinned)) (sym a.found) at,
         subst (λ o. IsSomeAnd o (λ query. IsNews query (News index name version))) (sym after) a.answer,

@@ -11,7 +11,7 @@ use Rattle.kn_reply.specs.Logs.{item_of}
 use Rattle.kn_reply.specs.Replies.{Reply, Number, Added, Batched, No, NoMemory}
 use Rattle.kn_daemon.specs.Shapes.{Updating, AddText, DropId, ApplyBlock, Shape, Calls, Updates, Looks, Asks, Controls}
 use Rattle.kn_daemon.specs.Shapes.{AtFault}
-use Rattle.kn_daemon.specs.Daemon.{Grounds, State, IsCommitted, IsBatchCommitted, IsUpdated, Does, Permits}
+use Rattle.kn_daemon.specs.Daemon.{DaemonConfig, State, IsCommitted, IsBatchCommitted, IsUpdated, Does, Permits}
 use Rattle.kn_daemon.specs.Linearized.{added_text, dropped_id, read_items, applied_items, updating, update_by}
 
 nothing : (u : Update) → None ≡ Some u → ⊥
@@ -42,13 +42,13 @@ updated-committed caller past (ApplyBlock block) reply u a e =
     let b : IsBatchCommitted caller past (map item_of a.0) reply = a.2 in
     let first = additions (all_changes b.before) + 1 in
     let due : update_by caller (Updates (ApplyBlock block)) reply ≡ Some (batch_by caller first (map item_of a.0)) =
-    ap (update_by caller (Updates (ApplyBlock block))) b.told
+    ap (update_by caller (Updates (ApplyBlock block))) b.exact
     ∙ ap (λ (r : Result (List BatchItem) ℕ). option_map (λ (items : List Item). batch_by caller first items)
     (read_items r)) a.1 in
     subst (IsCommitted past) (same_Some (batch_by caller first (map item_of a.0)) u (sym due ∙ e))
     (record { before = b.before; ends = b.ends; accepted = b.accepted })
 
-does-committed : (g : Grounds) (caller : ℕ) (past : List Update) (old : State) (shape : Shape) (reply : Reply)
+does-committed : (g : DaemonConfig) (caller : ℕ) (past : List Update) (old : State) (shape : Shape) (reply : Reply)
     (new : State) (u : Update)
     → Does g caller past old shape reply new → update_by caller shape reply ≡ Some u → IsCommitted past u
 does-committed g caller past old (Updates update) reply new u d e =
@@ -64,7 +64,8 @@ does-committed g caller past old (Controls control) reply new u d e =
 does-committed g caller past old (AtFault fault) reply new u d e =
     absurd (nothing u (sym (no-update caller (AtFault fault) reply refl) ∙ e))
 
-pub update-committed : (g : Grounds) (caller : ℕ) (past : List Update) (old : State) (shape : Shape) (reply : Reply)
+pub update-committed : (g : DaemonConfig) (caller : ℕ) (past : List Update) (old : State) (shape : Shape)
+    (reply : Reply)
     (new : State) (u : Update)
     → Permits g caller past old shape reply new → update_by caller shape reply ≡ Some u → IsCommitted past u
 update-committed g caller past old shape (No refusal) new u h e = absurd (nothing u e)

@@ -1,6 +1,6 @@
 -- The sequential specification: what a daemon of one thread may reply (keynoted's own; the calls are those of
 -- keynote(3)). Requests are known by their shape, and each shape has its cases in `own_refusal`, `placed_refusal`,
--- `changed`, `Answers` and `may_lack_memory`.
+-- `state_after`, `Answers` and `may_lack_memory`.
 use Rattle.std.specs.Prelude.{ℕ, ◌≡◌, ◌+◌, ◌≤◌, Bool, true, false, ◌==◌, ◌&&◌, not, nat_lt, List, [], ◌∷◌, ◌++◌, length}
 use Rattle.std.specs.Prelude.{map, flat_map, slice_index_or, Option, Some, None, option_map, option_and_then, is_none}
 use Rattle.std.specs.Prelude.{IsSome, IsSomeAnd, Result, Ok, Err, if◌then◌else◌}
@@ -57,7 +57,7 @@ use Rattle.kn_reply.specs.Replies.{News, Critical, No, NoMemory}
 
 -- what the daemon is started with: the administrators' secret, and the authenticator's number for a text, 0 where it is
 -- admitted
-pub record Grounds : Type 0 where
+pub record DaemonConfig : Type 0 where
   pub secret : List ℕ
   pub verdict : List ℕ → Assertion → ℕ
 
@@ -137,8 +137,8 @@ in_session (Some session) refusal = refusal session
 abbrev pub session_refusal : State → ℕ → (Session → Option SessionFault) → Option Refusal
 session_refusal state s fault = refusal_by (fault_in s (session_of state s) fault)
 
--- The refusal that the fault of a text is, however it is told: of a request, or of an item of a batch. None when out
--- of memory.
+-- The refusal that the fault of a text is, however it is reported: of a request, or of an item of a batch. None when
+-- out of memory.
 abbrev pub refusal_at_text : {X : Type 0} → (ℕ → ℕ → X) → ReadFault → Option X
 refusal_at_text told fault = option_map (λ number. told number (fault_place fault)) (fault_number fault)
 
@@ -157,7 +157,7 @@ refusal_of_reading reading next = refusal_at_reading R.Read reading next
 abbrev pub is_secret : List ℕ → List ℕ → Bool
 is_secret secret bytes = nat_lt 0 (length secret) && bytes_eq secret bytes
 
--- what the authenticator's number refuses, however it is told
+-- what the authenticator's number refuses, however it is reported
 abbrev pub refusal_at_verdict : {X : Type 0} → (ℕ → X) → ℕ → Option X
 refusal_at_verdict told number = if not (number == 0) then Some (told number) else None
 
@@ -165,7 +165,7 @@ abbrev pub refusal_of_verdict : ℕ → Option Refusal
 refusal_of_verdict number = refusal_at_verdict R.Auth number
 
 -- why an item of a batch isn't admitted: its text has a fault, or the authenticator has one
-abbrev pub item_refusal : Grounds → BatchItem → Option ItemRefusal
+abbrev pub item_refusal : DaemonConfig → BatchItem → Option ItemRefusal
 item_refusal g (B.AddText text) =
     refusal_at_reading I.Read (reading_of text) (λ a. refusal_at_verdict I.Auth (g.verdict text a))
 item_refusal g (B.DropId k) = None
@@ -176,13 +176,13 @@ found_item number None later = later
 found_item number (Some inner) later = Some (R.Item number inner)
 
 -- the first item that isn't admitted, where they are counted from this number
-abbrev pub refusal_from : Grounds → ℕ → List BatchItem → Option Refusal
+abbrev pub refusal_from : DaemonConfig → ℕ → List BatchItem → Option Refusal
 refusal_from g number [] = None
 refusal_from g number (item ∷ items) = found_item number (item_refusal g item) (refusal_from g (number + 1) items)
 
 -- a block that departs from the form of items is refused for that, and else for the first item that isn't admitted,
 -- counted from 1
-abbrev pub refusal_of_block : Grounds → Result (List BatchItem) ℕ → Option Refusal
+abbrev pub refusal_of_block : DaemonConfig → Result (List BatchItem) ℕ → Option Refusal
 refusal_of_block g (Ok items) = refusal_from g 1 items
 refusal_of_block g (Err number) = Some (R.Batch number)
 
@@ -191,7 +191,7 @@ abbrev pub refusal_of_call : CallFault → Option Refusal
 refusal_of_call (T.Text fault) = refusal_of_text fault
 refusal_of_call (T.Session fault) = refusal_of_session fault
 
-abbrev pub refusal_of_update : Grounds → Updating → Option Refusal
+abbrev pub refusal_of_update : DaemonConfig → Updating → Option Refusal
 refusal_of_update g (AddText text) = refusal_of_reading (reading_of text) (λ a. refusal_of_verdict (g.verdict text a))
 refusal_of_update g (DropId k) = None
 refusal_of_update g (ApplyBlock block) = refusal_of_block g (items_of block)
@@ -204,14 +204,14 @@ refusal_of_look state (ForRetained s version) = session_refusal state s (λ x. N
 refusal_of_look state (ForStanding s) = session_refusal state s standing_fault
 refusal_of_look state (ForLog n) = refuse_if (not state.is_admin) R.Admin None
 
-abbrev pub refusal_of_control : Grounds → Control → Option Refusal
+abbrev pub refusal_of_control : DaemonConfig → Control → Option Refusal
 refusal_of_control g (ShowSecret bytes) = refuse_if (not (is_secret g.secret bytes)) R.Admin None
 refusal_of_control g Leave = None
 
 abbrev pub refusal_of_nodes : ℕ → Option Refusal
 refusal_of_nodes nodes = refuse_if (nat_lt CRITICAL_NODES nodes) (R.Limit W.Nodes nodes) None
 
--- More nodes than the critical assertions of a query are looked for in are refused: the number of nodes is told.
+-- More nodes than the critical assertions of a query are looked for in are refused: the number of nodes is named.
 abbrev pub refusal_of_question : Question → Session → List (List ℕ) → Option Refusal
 refusal_of_question WithProof session values = None
 refusal_of_question WithCritical session values = refusal_of_nodes (equation_nodes (equations_of session values))
@@ -222,7 +222,7 @@ abbrev pub refusal_of_names : Option (List (List ℕ)) → (List (List ℕ) → 
 refusal_of_names None next = Some R.Values
 refusal_of_names (Some values) next = next values
 
-abbrev pub own_refusal : Grounds → State → Shape → Option Refusal
+abbrev pub own_refusal : DaemonConfig → State → Shape → Option Refusal
 own_refusal g state (Calls s call) = option_and_then refusal_of_call (call_fault_in s (session_of state s) call)
 own_refusal g state (Updates update) = refuse_if (not state.is_admin) R.Admin (refusal_of_update g update)
 own_refusal g state (Looks look) = refusal_of_look state look
@@ -233,8 +233,8 @@ own_refusal g state (AtFault fault) = Some (refusal_of_fault fault)
 
 -- Refusals by the history before the request.
 
--- the refusal that a fault of the store is, however it is told: of a request, or of an item of a batch; none when
--- out of memory
+-- the refusal that a fault of the store is, however it is reported: of a request, or of an item of a batch; none
+-- when out of memory
 abbrev pub refusal_at_store : {X : Type 0} → X → (LimitWord → ℕ → X) → StoreFault → Option X
 refusal_at_store unknown limit (U.Unknown id) = Some unknown
 refusal_at_store unknown limit (U.LiveFull count) = Some (limit W.Live count)
@@ -264,7 +264,7 @@ placed_refusal_of_update past (AddText text) =
 placed_refusal_of_update past (DropId k) = option_and_then refusal_of_store (fault_of_removal (all_changes past) k)
 placed_refusal_of_update past (ApplyBlock block) = refusal_of_batch past (items_of block)
 
--- a version isn't retained, or there are fewer updates than that: the newest version is told
+-- a version isn't retained, or there are fewer updates than that: the newest version is named
 abbrev pub placed_refusal_of_look : List Update → Look → Option Refusal
 placed_refusal_of_look past ForNew = None
 placed_refusal_of_look past (ForOpen s) = None
@@ -282,7 +282,7 @@ placed_refusal past (Controls control) = None
 placed_refusal past (AtFault fault) = None
 
 -- the first refusal that applies: those by the history come after all others
-abbrev pub first_refusal : Grounds → List Update → State → Shape → Option Refusal
+abbrev pub first_refusal : DaemonConfig → List Update → State → Shape → Option Refusal
 first_refusal g past state shape = option_or (own_refusal g state shape) (placed_refusal past shape)
 
 -- Changes.
@@ -292,38 +292,38 @@ abbrev pub pinned_to : State → ℕ → Option (List Update) → State
 pinned_to state s None = state
 pinned_to state s (Some version) = with_session state s (pin_at version)
 
-abbrev pub looked : List Update → State → Look → State
-looked past state ForNew = record state {
+abbrev pub state_after_look : List Update → State → Look → State
+state_after_look past state ForNew = record state {
   started = state.started + 1;
   sessions = with_started state.started state.sessions past;
 }
-looked past state (ForOpen s) = with_session state s (pin_at past)
-looked past state (ForRetained s version) = pinned_to state s (retained_version past version)
-looked past state (ForStanding s) = with_session state s (move_standing past)
-looked past state (ForLog n) = state
+state_after_look past state (ForOpen s) = with_session state s (pin_at past)
+state_after_look past state (ForRetained s version) = pinned_to state s (retained_version past version)
+state_after_look past state (ForStanding s) = with_session state s (move_standing past)
+state_after_look past state (ForLog n) = state
 
 -- a question that names compliance values is kept as the session's standing query
-abbrev pub kept : State → ℕ → Option (List (List ℕ)) → State
-kept state s None = state
-kept state s (Some values) = with_session state s (watch_with values)
+abbrev pub state_keeping : State → ℕ → Option (List (List ℕ)) → State
+state_keeping state s None = state
+state_keeping state s (Some values) = with_session state s (watch_with values)
 
-abbrev pub questioned : State → Question → ℕ → List ℕ → State
-questioned state WithProof s names = state
-questioned state WithCritical s names = state
-questioned state ToKeep s names = kept state s (values_of names)
+abbrev pub state_after_question : State → Question → ℕ → List ℕ → State
+state_after_question state WithProof s names = state
+state_after_question state WithCritical s names = state
+state_after_question state ToKeep s names = state_keeping state s (values_of names)
 
-abbrev pub controlled : State → Control → State
-controlled state (ShowSecret bytes) = record state { is_admin = true }
-controlled state Leave = state
+abbrev pub state_after_control : State → Control → State
+state_after_control state (ShowSecret bytes) = record state { is_admin = true }
+state_after_control state Leave = state
 
 -- what an accepted request after this history makes of the state
-abbrev pub changed : List Update → State → Shape → State
-changed past state (Calls s call) = record state { sessions = after_call state.sessions s call }
-changed past state (Updates update) = state
-changed past state (Looks look) = looked past state look
-changed past state (Asks question s names) = questioned state question s names
-changed past state (Controls control) = controlled state control
-changed past state (AtFault fault) = state
+abbrev pub state_after : List Update → State → Shape → State
+state_after past state (Calls s call) = record state { sessions = after_call state.sessions s call }
+state_after past state (Updates update) = state
+state_after past state (Looks look) = state_after_look past state look
+state_after past state (Asks question s names) = state_after_question state question s names
+state_after past state (Controls control) = state_after_control state control
+state_after past state (AtFault fault) = state
 
 -- Answers.
 
@@ -331,7 +331,7 @@ changed past state (AtFault fault) = state
 pub record IsAnswer (session : Session) (values : List (List ℕ)) (reply : Reply) : Type 0 where
   pub level : ℕ
   pub rows : List NamedRow
-  pub told : reply ≡ Value level (slice_index_or values level []) (length session.pinned) rows
+  pub exact : reply ≡ Value level (slice_index_or values level []) (length session.pinned) rows
   pub proved : IsProof (equations_of session values) rows level
   pub least : IsPolicyLevel (equations_of session values) level
 
@@ -339,14 +339,14 @@ pub record IsAnswer (session : Session) (values : List (List ℕ)) (reply : Repl
 -- rows prove it.
 pub record IsNews (query : StandingQuery) (reply : Reply) : Type 0 where
   pub level : ℕ
-  pub told : reply ≡ News level (slice_index_or query.values level []) (length query.pinned)
+  pub exact : reply ≡ News level (slice_index_or query.values level []) (length query.pinned)
   pub least : IsPolicyLevel (equations_of (asker query) query.values) level
 
 -- The reply gives the policy's level in the least fixed point, with the ids of the critical assertions in their order.
 pub record IsCriticalAnswer (session : Session) (values : List (List ℕ)) (reply : Reply) : Type 0 where
   pub level : ℕ
   pub ids : List Id
-  pub told : reply ≡ Critical level ids
+  pub exact : reply ≡ Critical level ids
   pub least : IsPolicyLevel (equations_of session values) level
   pub critical : AreCritical (asked_of session values) (session_parts session) (session_parts session) ids
 
@@ -379,16 +379,16 @@ pub record IsCommitted (past : List Update) (update : Update) : Type 0 where
   pub accepted : update_may_follow (all_changes before) update ≡ true
 
 -- The history ends with this caller's update that makes the changes of these items, which may follow what is before it.
--- Told are the id that its first addition has, or would have, the number of its additions, and its place.
+-- The reply names the id that its first addition has, or would have, the number of its additions, and its place.
 pub record IsBatchCommitted (caller : ℕ) (past : List Update) (items : List Item) (reply : Reply) : Type 0 where
   pub before : List Update
   pub ends : past ≡ before ++ batch_by caller (additions (all_changes before) + 1) items ∷ []
   pub accepted : update_may_follow (all_changes before)
       (batch_by caller (additions (all_changes before) + 1) items) ≡ true
-  pub told : reply ≡ Batched (additions (all_changes before) + 1)
+  pub exact : reply ≡ Batched (additions (all_changes before) + 1)
       (additions (numbered_from (additions (all_changes before) + 1) items)) (length past)
 
--- a new private assertion is told by its id
+-- a new private assertion is named by its id
 abbrev pub reply_of_call : Applied → Reply
 reply_of_call A.Done = Done
 reply_of_call (A.Added k) = PrivateAdded k
@@ -422,11 +422,11 @@ Answers caller past old (AtFault fault) reply = ⊥
 
 -- The request is accepted: the state refuses nothing, and the reply and the next state are due. An update that the
 -- history holds already was judged by what is before it.
-pub record Does (g : Grounds) (caller : ℕ) (past : List Update) (old : State) (shape : Shape) (reply : Reply)
+pub record Does (g : DaemonConfig) (caller : ℕ) (past : List Update) (old : State) (shape : Shape) (reply : Reply)
     (new : State) : Type 0 where
   pub accepted : own_refusal g old shape ≡ None
   pub answered : Answers caller past old shape reply
-  pub next : new ≡ changed past old shape
+  pub next : new ≡ state_after past old shape
 
 -- the requests to which `NoMemory` may be the reply; then nothing has changed
 abbrev pub may_lack_memory : Shape → Bool
@@ -439,7 +439,7 @@ may_lack_memory (AtFault fault) = false
 
 -- A daemon of one thread may give this reply to the caller's request of this shape after this history, and be in the
 -- state `new` then.
-abbrev pub Permits : Grounds → ℕ → List Update → State → Shape → Reply → State → Type 0
+abbrev pub Permits : DaemonConfig → ℕ → List Update → State → Shape → Reply → State → Type 0
 Permits g caller past old shape (No refusal) new = (first_refusal g past old shape ≡ Some refusal) × (new ≡ old)
 Permits g caller past old shape NoMemory new = (may_lack_memory shape ≡ true) × (new ≡ old)
 Permits g caller past old shape reply new = Does g caller past old shape reply new

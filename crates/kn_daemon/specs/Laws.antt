@@ -19,14 +19,14 @@ use Rattle.kn_history.specs.History.{is_valid_history, own_updates}
 use Rattle.kn_daemon.specs.declared.ended.Ended.{Ended}
 use Rattle.kn_daemon.specs.declared.ended.Ended.TheVariants as E
 use Rattle.kn_daemon.specs.Shapes.{ForLog, Shape, Looks, shape_of}
-use Rattle.kn_daemon.specs.Daemon.{Grounds, State, first_state, IsCommitted, Permits}
+use Rattle.kn_daemon.specs.Daemon.{DaemonConfig, State, first_state, IsCommitted, Permits}
 use Rattle.kn_daemon.specs.Daemon.{refusal_of_reading, refusal_at_verdict, item_refusal, own_refusal, placed_refusal}
 use Rattle.kn_daemon.specs.Linearized.{Exchange, Along, requests_in, update_by, is_placed}
 use Rattle.kn_session.specs.declared.fault.CallFault.{CallFault}
 use Rattle.kn_session.specs.declared.fault.CallFault.TheVariants as T
 use Rattle.kn_session.specs.Sessions.{Session}
 use Rattle.kn_session.specs.Calls.{text_fault}
-use Rattle.kn_daemon.specs.Played.{after_request, played, IsMeant}
+use Rattle.kn_daemon.specs.Played.{after_request, played, IsLastQuery}
 use Rattle.kn_daemon.specs.Alone.{IsServedAlone}
 use Rattle.kn_wire.specs.Feeding.{Held, Bytes, held_bytes, pushed, next_of}
 use Rattle.kn_daemon.specs.Served.{IsServed, is_bye, is_block}
@@ -34,19 +34,19 @@ use Rattle.kn_daemon.specs.Underway.{IsUnderway, IsReplied, IsSmall}
 
 -- at first nothing is taken and nothing written
 abbrev pub Begins : Type 0
-Begins = (g : Grounds) (history : List Update) (caller : ℕ)
+Begins = (g : DaemonConfig) (history : List Update) (caller : ℕ)
     → IsUnderway g [] [] history (length history) caller [] first_state (Bytes []) 0
 
 -- one more piece of bytes is taken
 abbrev pub TakesPiece : Type 0
-TakesPiece = (g : Grounds) (taken written : List ℕ) (history : List Update) (start caller : ℕ) (stops : List ℕ)
+TakesPiece = (g : DaemonConfig) (taken written : List ℕ) (history : List Update) (start caller : ℕ) (stops : List ℕ)
     (state : State) (held : Held) (answered : ℕ) (piece : List ℕ)
     → IsUnderway g taken written history start caller stops state held answered
     → IsUnderway g (taken ++ piece) written history start caller stops state (pushed held piece) answered
 
 -- one more request that doesn't end the connection is answered
 abbrev pub AnswersOne : Type 0
-AnswersOne = (g : Grounds) (taken written : List ℕ) (history more : List Update) (start caller : ℕ)
+AnswersOne = (g : DaemonConfig) (taken written : List ℕ) (history more : List Update) (start caller : ℕ)
     (stops entries : List ℕ) (old new : State) (held after : Held) (answered : ℕ) (request : Request) (reply : Reply)
     → IsUnderway g taken written history start caller stops old held answered
     → next_of held ≡ Some (request, after)
@@ -57,7 +57,7 @@ AnswersOne = (g : Grounds) (taken written : List ℕ) (history more : List Updat
 
 -- BYE is answered
 abbrev pub EndsByBye : Type 0
-EndsByBye = (g : Grounds) (taken written : List ℕ) (history more : List Update) (start caller : ℕ)
+EndsByBye = (g : DaemonConfig) (taken written : List ℕ) (history more : List Update) (start caller : ℕ)
     (stops entries : List ℕ) (old new : State) (held after : Held) (answered : ℕ) (reply : Reply) (is_over : Bool)
     → IsUnderway g taken written history start caller stops old held answered → answered < REQUESTS
     → next_of held ≡ Some (Bye, after)
@@ -68,7 +68,7 @@ EndsByBye = (g : Grounds) (taken written : List ℕ) (history more : List Update
 
 -- a block is refused
 abbrev pub EndsByBlock : Type 0
-EndsByBlock = (g : Grounds) (taken written : List ℕ) (history more : List Update) (start caller : ℕ)
+EndsByBlock = (g : DaemonConfig) (taken written : List ℕ) (history more : List Update) (start caller : ℕ)
     (stops entries : List ℕ) (old new : State) (held after : Held) (answered n : ℕ) (reply : Reply) (is_over : Bool)
     → IsUnderway g taken written history start caller stops old held answered → answered < REQUESTS
     → next_of held ≡ Some (Faulty (F.Block n), after)
@@ -79,7 +79,7 @@ EndsByBlock = (g : Grounds) (taken written : List ℕ) (history more : List Upda
 
 -- a reply is not written whole
 abbrev pub EndsByWrite : Type 0
-EndsByWrite = (g : Grounds) (taken written : List ℕ) (history more : List Update) (start caller : ℕ)
+EndsByWrite = (g : DaemonConfig) (taken written : List ℕ) (history more : List Update) (start caller : ℕ)
     (stops entries : List ℕ) (old new : State) (held after : Held) (answered at : ℕ) (request : Request) (reply : Reply)
     (is_over : Bool)
     → IsUnderway g taken written history start caller stops old held answered → answered < REQUESTS
@@ -91,7 +91,8 @@ EndsByWrite = (g : Grounds) (taken written : List ℕ) (history more : List Upda
     (length (history ++ more)) caller (stops ++ entries)
 
 -- no whole request is held: how the connection may end then
-pub record IsDry (g : Grounds) (taken written : List ℕ) (history : List Update) (start caller : ℕ) (stops : List ℕ)
+pub record HasNoRequest (g : DaemonConfig) (taken written : List ℕ) (history : List Update) (start caller : ℕ)
+    (stops : List ℕ)
     (held : Held) : Type 0 where
   pub by_read : (is_over : Bool)
       → IsServed g taken written E.ReadFault is_over history start (length history) caller stops
@@ -100,42 +101,44 @@ pub record IsDry (g : Grounds) (taken written : List ℕ) (history : List Update
       → IsServed g taken written (E.Cut (length (held_bytes held))) true history start (length history) caller stops
 
 -- no whole request is held
-abbrev pub EndsDry : Type 0
-EndsDry = (g : Grounds) (taken written : List ℕ) (history : List Update) (start caller : ℕ) (stops : List ℕ)
+abbrev pub EndsWithoutRequest : Type 0
+EndsWithoutRequest =
+    (g : DaemonConfig) (taken written : List ℕ) (history : List Update) (start caller : ℕ) (stops : List ℕ)
     (state : State) (held : Held) (answered : ℕ)
     → IsUnderway g taken written history start caller stops state held answered → answered < REQUESTS
     → next_of held ≡ None → is_valid_history history ≡ true
-    → IsDry g taken written history start caller stops held
+    → HasNoRequest g taken written history start caller stops held
 
 -- as many requests were answered as a connection has
 abbrev pub EndsByBudget : Type 0
-EndsByBudget = (g : Grounds) (taken written : List ℕ) (history : List Update) (start caller : ℕ) (stops : List ℕ)
+EndsByBudget = (g : DaemonConfig) (taken written : List ℕ) (history : List Update) (start caller : ℕ) (stops : List ℕ)
     (state : State) (held : Held) (is_over : Bool)
     → IsUnderway g taken written history start caller stops state held REQUESTS → is_valid_history history ≡ true
     → IsServed g taken written E.Budget is_over history start (length history) caller stops
 
 -- memory ran out at first
 abbrev pub EndsByMemory : Type 0
-EndsByMemory = (g : Grounds) (history : List Update) (caller : ℕ) (is_over : Bool)
+EndsByMemory = (g : DaemonConfig) (history : List Update) (caller : ℕ) (is_over : Bool)
     → is_valid_history history ≡ true
     → IsServed g [] [] E.Memory is_over history (length history) (length history) caller []
 
 -- a served connection stays served in a longer valid history
 abbrev pub ServedLonger : Type 0
-ServedLonger = (g : Grounds) (taken written : List ℕ) (ended : Ended) (is_over : Bool) (history more : List Update)
+ServedLonger = (g : DaemonConfig) (taken written : List ℕ) (ended : Ended) (is_over : Bool) (history more : List Update)
     (start end caller : ℕ) (stops : List ℕ)
     → is_valid_history (history ++ more) ≡ true → IsServed g taken written ended is_over history start end caller stops
     → IsServed g taken written ended is_over (history ++ more) start end caller stops
 
 -- what the daemon permits changes the state as playing does, unless memory ran out
 abbrev pub PermittedIsPlayed : Type 0
-PermittedIsPlayed = (g : Grounds) (caller : ℕ) (past : List Update) (old : State) (request : Request) (reply : Reply)
+PermittedIsPlayed =
+    (g : DaemonConfig) (caller : ℕ) (past : List Update) (old : State) (request : Request) (reply : Reply)
     (new : State)
     → Permits g caller past old (shape_of request) reply new → reply ≢ NoMemory → new ≡ after_request g past old request
 
 -- and so does a list of exchanges, each after the whole history
 abbrev pub AlongIsPlayed : Type 0
-AlongIsPlayed = (g : Grounds) (caller : ℕ) (history : List Update) (old : State) (exchanges : List Exchange)
+AlongIsPlayed = (g : DaemonConfig) (caller : ℕ) (history : List Update) (old : State) (exchanges : List Exchange)
     (new : State)
     → Along g caller history old exchanges new → All (λ e. e.place ≡ length history) exchanges
     → All (λ e. e.reply ≢ NoMemory) exchanges
@@ -143,18 +146,19 @@ AlongIsPlayed = (g : Grounds) (caller : ℕ) (history : List Update) (old : Stat
 
 -- a small connection over an empty history: a session is opened, and the turn is had once
 abbrev pub OpeningIsServed : Type 0
-OpeningIsServed = (g : Grounds) (caller : ℕ)
+OpeningIsServed = (g : DaemonConfig) (caller : ℕ)
     → IsServed g (codes "OPEN\nBYE\n") (codes "OK 1 0\nOK\n") E.Done false [] 0 0 caller (0 ∷ [])
 
 -- so many requests start at most as many sessions, and add at most as many private assertions
 abbrev pub UnderwayIsSmall : Type 0
-UnderwayIsSmall = (g : Grounds) (taken written : List ℕ) (history : List Update) (start caller : ℕ) (stops : List ℕ)
+UnderwayIsSmall =
+    (g : DaemonConfig) (taken written : List ℕ) (history : List Update) (start caller : ℕ) (stops : List ℕ)
     (state : State) (held : Held) (answered : ℕ)
     → IsUnderway g taken written history start caller stops state held answered → IsSmall answered state
 
 -- where all that was seen meanwhile is the caller's own, the replies tell each place
 abbrev pub ServedAlone : Type 0
-ServedAlone = (g : Grounds) (taken written : List ℕ) (ended : Ended) (is_over : Bool) (history : List Update)
+ServedAlone = (g : DaemonConfig) (taken written : List ℕ) (ended : Ended) (is_over : Bool) (history : List Update)
     (start caller : ℕ) (stops : List ℕ)
     → IsServed g taken written ended is_over history start (length history) caller stops
     → own_updates caller (drop start history) ≡ drop start history
@@ -175,11 +179,11 @@ ReadingGoesOn = (text : List ℕ) (assertion : Assertion) (next : Assertion → 
 -- an item of a batch that adds a text with a fault is refused for it, and one with a reading by what the authenticator
 -- says
 abbrev pub FaultRefusesItem : Type 0
-FaultRefusesItem = (g : Grounds) (text : List ℕ) (fault : ReadFault) → fault_of text ≡ Some fault
+FaultRefusesItem = (g : DaemonConfig) (text : List ℕ) (fault : ReadFault) → fault_of text ≡ Some fault
     → item_refusal g (AddText text) ≡ option_map (λ number. I.Read number (fault_place fault)) (fault_number fault)
 
 abbrev pub ReadingAdmitsItem : Type 0
-ReadingAdmitsItem = (g : Grounds) (text : List ℕ) (assertion : Assertion) → assertion_of text ≡ Some assertion
+ReadingAdmitsItem = (g : DaemonConfig) (text : List ℕ) (assertion : Assertion) → assertion_of text ≡ Some assertion
     → item_refusal g (AddText text) ≡ refusal_at_verdict I.Auth (g.verdict text assertion)
 
 -- a call that asserts a text with a fault has that fault, and one with a reading what its assertion has
@@ -194,22 +198,22 @@ CallGoesOn = (text : List ℕ) (assertion : Assertion) (next : Assertion → Opt
     → text_fault (reading_of text) next ≡ next assertion
 
 -- requests mean one query at most
-abbrev pub OneQueryIsMeant : Type 0
-OneQueryIsMeant = (history : List Update) (requests : List Request) (session other_session : Session)
+abbrev pub LastQueryIsOne : Type 0
+LastQueryIsOne = (history : List Update) (requests : List Request) (session other_session : Session)
     (values other_values : List (List ℕ))
-    → IsMeant history requests session values → IsMeant history requests other_session other_values
+    → IsLastQuery history requests session values → IsLastQuery history requests other_session other_values
     → (session ≡ other_session) × (values ≡ other_values)
 
 -- the caller's update that a request and its reply name is the last one of the history, and may follow what is before
 -- it
 abbrev pub UpdateIsCommitted : Type 0
-UpdateIsCommitted = (g : Grounds) (caller : ℕ) (past : List Update) (old : State) (shape : Shape) (reply : Reply)
+UpdateIsCommitted = (g : DaemonConfig) (caller : ℕ) (past : List Update) (old : State) (shape : Shape) (reply : Reply)
     (new : State) (update : Update)
     → Permits g caller past old shape reply new → update_by caller shape reply ≡ Some update → IsCommitted past update
 
 -- what refuses a request by the state alone doesn't depend on its place
 abbrev pub OwnIsUnplaced : Type 0
-OwnIsUnplaced = (g : Grounds) (state : State) (shape : Shape) (refusal : Refusal)
+OwnIsUnplaced = (g : DaemonConfig) (state : State) (shape : Shape) (refusal : Refusal)
     → own_refusal g state shape ≡ Some refusal → is_placed shape (No refusal) ≡ false
 
 -- and what refuses it by the history does
@@ -219,20 +223,21 @@ HistoryIsPlaced = (past : List Update) (shape : Shape) (refusal : Refusal) → p
 
 -- A reply to LOG that hands on updates tells what was asked for, of the history at its place, and changes nothing.
 abbrev pub LogIsOfPlace : Type 0
-LogIsOfPlace = (g : Grounds) (caller : ℕ) (past : List Update) (old : State) (n m : ℕ) (history : List Update)
+LogIsOfPlace = (g : DaemonConfig) (caller : ℕ) (past : List Update) (old : State) (n m : ℕ) (history : List Update)
     (new : State)
     → Permits g caller past old (Looks (ForLog n)) (Log m history) new
     → (m ≡ n) × (history ≡ past) × (n ≤ length past) × (new ≡ old)
 
 -- what is replied to a request without a look at the history is permitted at each place
 abbrev pub UnplacedIsFree : Type 0
-UnplacedIsFree = (g : Grounds) (caller : ℕ) (past other : List Update) (old : State) (shape : Shape) (reply : Reply)
+UnplacedIsFree =
+    (g : DaemonConfig) (caller : ℕ) (past other : List Update) (old : State) (shape : Shape) (reply : Reply)
     (new : State) → is_placed shape reply ≡ false → Permits g caller past old shape reply new
     → Permits g caller other old shape reply new
 
 -- `NoMemory` is no reply to this request
 abbrev pub NeverLacksMemory : Request → Type 0
-NeverLacksMemory request = (g : Grounds) (caller : ℕ) (past : List Update) (old new : State)
+NeverLacksMemory request = (g : DaemonConfig) (caller : ℕ) (past : List Update) (old new : State)
     → Permits g caller past old (shape_of request) NoMemory new → ⊥
 
 -- Requests that keep nothing more, and faults, are answered without more memory.

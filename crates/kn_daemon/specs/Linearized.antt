@@ -17,7 +17,7 @@ use Rattle.kn_history.specs.Batches.{batch_by}
 use Rattle.kn_history.specs.History.{is_valid_history, addition_by, removal_by, own_updates}
 use Rattle.kn_daemon.specs.Shapes.{Updating, AddText, DropId, ApplyBlock, Shape, Calls, Updates, Looks, Asks, Controls}
 use Rattle.kn_daemon.specs.Shapes.{AtFault, shape_of}
-use Rattle.kn_daemon.specs.Daemon.{Grounds, State, Permits}
+use Rattle.kn_daemon.specs.Daemon.{DaemonConfig, State, Permits}
 
 -- a request, its reply, and the place in the history where it stands: after so many updates
 pub record Exchange : Type 0 where
@@ -26,7 +26,7 @@ pub record Exchange : Type 0 where
   pub place : ℕ
 
 -- the replies follow from one another, each at its place of the one history
-abbrev pub Along : Grounds → ℕ → List Update → State → List Exchange → State → Type 0
+abbrev pub Along : DaemonConfig → ℕ → List Update → State → List Exchange → State → Type 0
 Along g caller history old [] new = new ≡ old
 Along g caller history old (e ∷ es) new =
     (mid : State) × Permits g caller (take e.place history) old (shape_of e.request) e.reply mid

@@ -6,13 +6,13 @@ use Rattle.kn_base.specs.declared.limits.TheConstants.{REQUESTS}
 use Rattle.kn_wire.specs.declared.fault.WireFault.{WireFault}
 use Rattle.kn_wire.specs.declared.fault.WireFault.TheVariants as F
 use Rattle.kn_history.specs.declared.update.Update.{Update}
-use Rattle.kn_wire.specs.Requests.{Request, Content, BlockOf, DigitsOf, Plain, FaultOf, content_of, Bye, Faulty, Takes}
+use Rattle.kn_wire.specs.Requests.{Request, Content, BlockOf, HexOf, Plain, FaultOf, content_of, Bye, Faulty, Takes}
 use Rattle.kn_wire.specs.Requests.{first_of}
 use Rattle.kn_daemon.specs.declared.ended.Ended.{Ended}
 use Rattle.kn_daemon.specs.declared.ended.Ended.TheVariants as E
 use Rattle.kn_daemon.specs.Shapes.{Control, ShowSecret, Leave, Shape, Calls, Updates, Looks, Asks, Controls, AtFault}
 use Rattle.kn_daemon.specs.Shapes.{shape_of}
-use Rattle.kn_daemon.specs.Daemon.{Grounds, State, first_state}
+use Rattle.kn_daemon.specs.Daemon.{DaemonConfig, State, first_state}
 use Rattle.kn_daemon.specs.Linearized.{Exchange, Along, IsLinearized, requests_in, texts_in}
 
 abbrev pub is_leave : Control → Bool
@@ -38,7 +38,7 @@ is_block_fault (F.Block n) = true
 
 abbrev pub is_block_content : Content → Bool
 is_block_content (BlockOf block) = false
-is_block_content (DigitsOf digits) = false
+is_block_content (HexOf digits) = false
 is_block_content Plain = false
 is_block_content (FaultOf fault) = is_block_fault fault
 
@@ -86,7 +86,7 @@ HasEnd E.Budget is_over requests rest = (length requests ≡ REQUESTS) × GoesOn
 
 -- A connection served: the bytes taken and written, how it ended, whether the input had ended, the history, the part of
 -- it that was seen in the call, whose connection, and where the turn was had.
-pub record IsServed (g : Grounds) (taken written : List ℕ) (ended : Ended) (is_over : Bool) (history : List Update)
+pub record IsServed (g : DaemonConfig) (taken written : List ℕ) (ended : Ended) (is_over : Bool) (history : List Update)
     (start end caller : ℕ) (stops : List ℕ) : Type 0 where
   pub exchanges : List Exchange
   pub rest : List ℕ

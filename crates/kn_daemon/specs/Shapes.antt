@@ -5,10 +5,10 @@ use Rattle.kn_base.specs.declared.limits.TheConstants.{ASSERTION_BYTES}
 use Rattle.kn_session.specs.Calls.{Call, call_of, asserted}
 use Rattle.kn_session.specs.Calls as C
 use Rattle.kn_wire.specs.declared.fault.WireFault.{WireFault}
-use Rattle.kn_wire.specs.Digits.{bytes_of_digits}
+use Rattle.kn_wire.specs.Hex.{bytes_of_hex}
 use Rattle.kn_wire.specs.Requests.{Request, Open, Close, Pin, Assert, Retract, Set, SetHex, Unset, Auth, Unauth, Clear}
 use Rattle.kn_wire.specs.Requests.{Query, Watch, News, Unwatch, Critical, Admin, Add, Drop, Batch, PinAt, Log, Bye}
-use Rattle.kn_wire.specs.Requests.{Faulty, are_digits}
+use Rattle.kn_wire.specs.Requests.{Faulty, is_hex}
 use Rattle.kn_daemon.specs.declared.shape.Shape.{Shape as Asked}
 use Rattle.kn_daemon.specs.declared.shape.Shape.TheVariants as S
 
@@ -56,7 +56,7 @@ shape_of (Pin s) = Looks (ForOpen s)
 shape_of (Assert s text) = Calls s (C.Assert text)
 shape_of (Retract s k) = Calls s (C.Retract k)
 shape_of (Set s name value) = Calls s (C.Set name value)
-shape_of (SetHex s name digits) = Calls s (C.Set name (bytes_of_digits digits))
+shape_of (SetHex s name digits) = Calls s (C.Set name (bytes_of_hex digits))
 shape_of (Unset s name) = Calls s (C.Unset name)
 shape_of (Auth s text) = Calls s (C.Auth text)
 shape_of (Unauth s text) = Calls s (C.Unauth text)
@@ -66,7 +66,7 @@ shape_of (Watch s names) = Asks ToKeep s names
 shape_of (News s) = Looks (ForStanding s)
 shape_of (Unwatch s) = Calls s C.Unwatch
 shape_of (Critical s names) = Asks WithCritical s names
-shape_of (Admin digits) = Controls (ShowSecret (bytes_of_digits digits))
+shape_of (Admin digits) = Controls (ShowSecret (bytes_of_hex digits))
 shape_of (Add text) = Updates (AddText text)
 shape_of (Drop k) = Updates (DropId k)
 shape_of (Batch block) = Updates (ApplyBlock block)
@@ -78,7 +78,7 @@ shape_of (Faulty fault) = AtFault fault
 -- what a shape in code stands for
 abbrev pub shape_in_code : Asked → Shape
 shape_in_code (S.Call s call) = Calls s (call_of call)
-shape_in_code (S.SetDigits s name digits) = Calls s (C.Set name.now (bytes_of_digits digits.now))
+shape_in_code (S.SetDigits s name digits) = Calls s (C.Set name.now (bytes_of_hex digits.now))
 shape_in_code S.Open = Looks ForNew
 shape_in_code (S.Pin s) = Looks (ForOpen s)
 shape_in_code (S.Add block) = Updates (AddText block.now)
@@ -90,14 +90,14 @@ shape_in_code (S.News s) = Looks (ForStanding s)
 shape_in_code (S.Query s values) = Asks WithProof s values.now
 shape_in_code (S.Watch s values) = Asks ToKeep s values.now
 shape_in_code (S.Critical s values) = Asks WithCritical s values.now
-shape_in_code (S.Admin digits) = Controls (ShowSecret (bytes_of_digits digits.now))
+shape_in_code (S.Admin digits) = Controls (ShowSecret (bytes_of_hex digits.now))
 shape_in_code S.Bye = Controls Leave
 
 -- its parts are of their form: digits are hexadecimal digits, an even number of them, and no text of an assertion and
 -- no block is too long
 abbrev pub IsFormed : Asked → Type 0
 IsFormed (S.Call s call) = length (asserted (call_of call)) ≤ ASSERTION_BYTES
-IsFormed (S.SetDigits s name digits) = are_digits digits.now ≡ true
+IsFormed (S.SetDigits s name digits) = is_hex digits.now ≡ true
 IsFormed S.Open = ⊤
 IsFormed (S.Pin s) = ⊤
 IsFormed (S.Add block) = length block.now ≤ ASSERTION_BYTES
@@ -109,5 +109,5 @@ IsFormed (S.News s) = ⊤
 IsFormed (S.Query s values) = ⊤
 IsFormed (S.Watch s values) = ⊤
 IsFormed (S.Critical s values) = ⊤
-IsFormed (S.Admin digits) = are_digits digits.now ≡ true
+IsFormed (S.Admin digits) = is_hex digits.now ≡ true
 IsFormed S.Bye = ⊤

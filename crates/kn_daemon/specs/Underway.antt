@@ -4,7 +4,7 @@ use Rattle.kn_history.specs.declared.update.Update.{Update}
 use Rattle.kn_wire.specs.Requests.{Takes}
 use Rattle.kn_reply.specs.Replies.{Reply}
 use Rattle.kn_daemon.specs.Shapes.{Shape}
-use Rattle.kn_daemon.specs.Daemon.{Grounds, State, first_state, session_of, Permits}
+use Rattle.kn_daemon.specs.Daemon.{DaemonConfig, State, first_state, session_of, Permits}
 use Rattle.kn_session.specs.Sessions.{Session}
 use Rattle.kn_daemon.specs.Linearized.{Exchange, Along, InOrder, StopsAt, StandsFor, is_placed, update_of, update_by}
 use Rattle.kn_daemon.specs.Linearized.{requests_in, texts_in}
@@ -14,7 +14,7 @@ use Rattle.kn_history.specs.History.{own_updates}
 
 -- One request of this shape was answered while the caller saw these updates behind the history: the reply is permitted
 -- behind them, the caller's own among them is that of the request, and the turn was had at the entries.
-pub record IsReplied (g : Grounds) (caller : ℕ) (history more : List Update) (entries : List ℕ) (old : State)
+pub record IsReplied (g : DaemonConfig) (caller : ℕ) (history more : List Update) (entries : List ℕ) (old : State)
     (shape : Shape) (reply : Reply) (new : State) : Type 0 where
   pub permitted : Permits g caller (history ++ more) old shape reply new
   pub own : own_updates caller more ≡ option_to_list (update_by caller shape reply)
@@ -23,7 +23,8 @@ pub record IsReplied (g : Grounds) (caller : ℕ) (history more : List Update) (
 -- So far these bytes were taken and written, the caller has seen this history, the turn was had at `stops`, the
 -- connection is in this state, this is held, and so many requests were answered, of which none ends the connection.
 -- Whatever more bytes come, the requests answered are the first ones.
-pub record IsUnderway (g : Grounds) (taken written : List ℕ) (history : List Update) (start caller : ℕ) (stops : List ℕ)
+pub record IsUnderway (g : DaemonConfig) (taken written : List ℕ) (history : List Update) (start caller : ℕ)
+    (stops : List ℕ)
     (state : State) (held : Held) (answered : ℕ) : Type 0 where
   pub exchanges : List Exchange
   pub requests : (more : List ℕ) → Takes (taken ++ more) (requests_in exchanges) (held_bytes (pushed held more))

@@ -2,8 +2,9 @@
 //! function that does nothing.
 
 ghost use Rattle.kn_daemon.specs.Laws.{Begins, TakesPiece, AnswersOne, EndsByBye, EndsByBlock, EndsByWrite};
-ghost use Rattle.kn_daemon.specs.Laws.{EndsDry, EndsByBudget, EndsByMemory, ServedLonger, ServedAlone, OpeningIsServed};
-ghost use Rattle.kn_daemon.specs.Laws.{UnderwayIsSmall, PermittedIsPlayed, AlongIsPlayed, OneQueryIsMeant};
+ghost use Rattle.kn_daemon.specs.Laws.{EndsWithoutRequest, EndsByBudget, EndsByMemory, ServedLonger, ServedAlone};
+ghost use Rattle.kn_daemon.specs.Laws.{OpeningIsServed};
+ghost use Rattle.kn_daemon.specs.Laws.{UnderwayIsSmall, PermittedIsPlayed, AlongIsPlayed, LastQueryIsOne};
 ghost use Rattle.kn_daemon.specs.Laws.{FaultRefuses, ReadingGoesOn, FaultRefusesItem, ReadingAdmitsItem};
 ghost use Rattle.kn_daemon.specs.Laws.{FaultRefusesCall, CallGoesOn, UpdateIsCommitted, OwnIsUnplaced, HistoryIsPlaced};
 ghost use Rattle.kn_daemon.specs.Laws.{LogIsOfPlace, UnplacedIsFree, FewerTakesNoMemory};
@@ -11,11 +12,11 @@ ghost use Rattle.kn_daemon.specs.QuestionLaws.{NewsIsOfPlace, WatchIsOfPin, Stan
 ghost use Rattle.kn_daemon.specs.QuestionLaws.{WatchTellsTheValue, CriticalTellsTheValue, NewsTellsTheValue};
 ghost use Rattle.kn_daemon.specs.QuestionLaws.{CriticalIsOne, CriticalIsSmall, CriticalIsLarge};
 ghost use Rattle.kn_daemon.specs.QuestionLaws.{ClosedIsRefused, NamesAreRefused, NoneStandingIsRefused};
-ghost use Rattle.kn_daemon.specs.PermissionLaws.{PinIsTold, RetainedPinIsTold};
+ghost use Rattle.kn_daemon.specs.PermissionLaws.{PinIsReported, RetainedPinIsReported};
 ghost use Rattle.kn_daemon.specs.PermissionLaws.{OthersAreRefused, SecretMakesAdmin, AdminStays};
 ghost use Rattle.kn_daemon.specs.PermissionLaws.{AddedIsAdmitted, BatchIsAdmitted, BatchTellsIds};
 ghost use Rattle.kn_daemon.specs.PermissionLaws.{OpenIsNew, StartedNeverFalls, CloseEnds, UnwatchEnds};
-ghost use Rattle.kn_daemon.specs.PermissionLaws.{RefusedLookIsNotTold, NothingBehindBye};
+ghost use Rattle.kn_daemon.specs.PermissionLaws.{RefusedLookIsNotReported, NothingBehindBye};
 
 /// At first nothing is taken and nothing written.
 pub fn serving_begins()
@@ -42,7 +43,7 @@ pub fn serving_ends()
 /// The connection ends between requests: no whole one is held, as many were answered as it has, or memory ran out
 /// at first.
 pub fn serving_stops()
-    ensures dry { EndsDry }
+    ensures dry { EndsWithoutRequest }
     ensures budget { EndsByBudget }
     ensures memory { EndsByMemory }
 {}
@@ -86,8 +87,8 @@ pub fn readings_decide()
 {}
 
 /// Requests mean one query at most: one session as it then stands, and the values that were asked for.
-pub fn one_query_is_meant()
-    ensures { OneQueryIsMeant }
+pub fn last_query_is_one()
+    ensures { LastQueryIsOne }
 {}
 
 /// The update that a permitted reply says was made is the last one of the history.
@@ -155,9 +156,9 @@ pub fn questions_are_refused()
 
 /// A reply to PIN tells the version that the session is then pinned to: that of its place, or the retained one that was
 /// asked for.
-pub fn pins_are_told()
-    ensures newest { PinIsTold }
-    ensures retained { RetainedPinIsTold }
+pub fn pins_are_reported()
+    ensures newest { PinIsReported }
+    ensures retained { RetainedPinIsReported }
 {}
 
 /// Only ADMIN with the secret makes a connection an administrator's, and nothing takes that away. Each other one is
@@ -184,8 +185,8 @@ pub fn sessions_begin_and_end()
 {}
 
 /// A look that the history refuses isn't answered besides.
-pub fn refused_looks_are_not_told()
-    ensures { RefusedLookIsNotTold }
+pub fn refused_looks_are_not_reported()
+    ensures { RefusedLookIsNotReported }
 {}
 
 /// A reply to BATCH tells the id of its first addition, which is the next one behind the history before it, how many it

@@ -1,6 +1,6 @@
 //! Requests by shape.
 ghost use Rattle.std.specs.Prelude.{◌≡◌};
-ghost use Rattle.kn_wire.specs.Digits.{IsWellFormed};
+ghost use Rattle.kn_wire.specs.Hex.{IsWellFormed};
 ghost use Rattle.kn_wire.specs.Wired.{request_of};
 ghost use Rattle.kn_daemon.specs.Shapes.{shape_in_code, IsFormed};
 ghost use Rattle.kn_daemon.specs.Shapes as S;
@@ -72,6 +72,7 @@ pub enum Shape<'a> {
     Admin {
         digits: &'a [u8],
     },
+    /// The connection ends.
     Bye,
 }
 

@@ -8,7 +8,7 @@ use Rattle.kn_fields.specs.declared.fault.ReadFault.{ReadFault}
 use Rattle.kn_fields.specs.Numbers.{fault_number, fault_place}
 use Rattle.kn_reply.specs.declared.refusal.LimitWord.{LimitWord}
 use Rattle.kn_reply.specs.Replies.{word_text}
-use Rattle.kn_inputs.specs.Stops.{policy_fault_line, limit_line, keys_line}
+use Rattle.kn_inputs.specs.InputFaults.{policy_fault_line, limit_line, keys_line}
 use Rattle.kn_endings.specs.AskEndings.{cut_line, block_line}
 
 -- the same line, printed whole or in part

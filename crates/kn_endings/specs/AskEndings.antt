@@ -4,7 +4,7 @@ use Rattle.std.specs.Option.{unwrap_or}
 use Rattle.kn_daemon.specs.declared.ended.Ended.{Ended}
 use Rattle.kn_daemon.specs.declared.ended.Ended.TheVariants as E
 use Rattle.kn_words.specs.Names.{AskNames}
-use Rattle.kn_inputs.specs.Stops.{status_of, stop_line}
+use Rattle.kn_inputs.specs.InputFaults.{status_of, input_fault_line}
 use Rattle.kn_endings.specs.declared.ask_ending.AskEnding.{AskEnding}
 use Rattle.kn_endings.specs.declared.ask_ending.AskEnding.TheVariants.{PolicyStopped, KeysStopped, Served}
 
@@ -38,6 +38,6 @@ line_of_ended E.Budget = codes "error link budget\n"
 
 -- the line that is due
 abbrev pub line_of_ask : AskNames → AskEnding → List ℕ
-line_of_ask names (PolicyStopped stop) = stop_line names.policy stop
-line_of_ask names (KeysStopped stop) = stop_line (unwrap_or names.keys []) stop
+line_of_ask names (PolicyStopped stop) = input_fault_line names.policy stop
+line_of_ask names (KeysStopped stop) = input_fault_line (unwrap_or names.keys []) stop
 line_of_ask names (Served ended) = line_of_ended ended

@@ -2,13 +2,13 @@
 use Rattle.std.specs.Prelude.{ℕ, List, ◌++◌, codes, decimal}
 use Rattle.kn_check.specs.declared.reject.Reject.{Reject}
 use Rattle.kn_check.specs.Rejects.{reason_numbers}
-use Rattle.kn_endings.specs.declared.ending.Ending.{Ending}
-use Rattle.kn_endings.specs.declared.ending.Ending.TheVariants.{Stopped, NoQuery, Faulty, Rejected, Proved}
+use Rattle.kn_endings.specs.declared.check_ending.CheckEnding.{CheckEnding}
+use Rattle.kn_endings.specs.declared.check_ending.CheckEnding.TheVariants.{Stopped, NoQuery, Faulty, Rejected, Proved}
 use Rattle.kn_words.specs.Names.{CheckNames}
 use Rattle.kn_words.specs.Sources.{name_of}
-use Rattle.kn_inputs.specs.Stops.{stop_line, status_of}
+use Rattle.kn_inputs.specs.InputFaults.{input_fault_line, status_of}
 
-abbrev pub status_of_ending : Ending → ℕ
+abbrev pub status_of_ending : CheckEnding → ℕ
 status_of_ending (Stopped source stop) = status_of stop
 status_of_ending NoQuery = 10
 status_of_ending (Faulty fault line) = 6
@@ -29,8 +29,8 @@ unfoldable pub proved_line : ℕ → List ℕ → List ℕ
 proved_line value name = codes "PROVED " ++ decimal value ++ codes " " ++ name ++ codes "\n"
 
 -- the line that is due
-abbrev pub line_of_ending : CheckNames → Ending → List ℕ
-line_of_ending names (Stopped source stop) = stop_line (name_of names source) stop
+abbrev pub line_of_ending : CheckNames → CheckEnding → List ℕ
+line_of_ending names (Stopped source stop) = input_fault_line (name_of names source) stop
 line_of_ending names NoQuery = codes "error query\n"
 line_of_ending names (Faulty fault line) = text_line fault line
 line_of_ending names (Rejected reject) = reject_line reject

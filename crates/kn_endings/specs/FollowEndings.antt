@@ -1,7 +1,7 @@
 -- How following the log in a file ended: its status, and the line that tells it (keynoted's own).
 use Rattle.std.specs.Prelude.{ℕ, List, ◌++◌, codes, decimal}
-use Rattle.kn_inputs.specs.Stops.{stop_line}
-use Rattle.kn_inputs.specs.declared.stop.Stop.TheVariants as S
+use Rattle.kn_inputs.specs.InputFaults.{input_fault_line}
+use Rattle.kn_inputs.specs.declared.input_fault.InputFault.TheVariants as S
 use Rattle.kn_endings.specs.declared.follow_ending.FollowEnding.{FollowEnding}
 use Rattle.kn_endings.specs.declared.follow_ending.FollowEnding.TheVariants.{FileFailed, FileTooLarge, Memory}
 use Rattle.kn_endings.specs.declared.follow_ending.FollowEnding.TheVariants.{Line, Gap, Refused, Followed}
@@ -26,8 +26,8 @@ log_line fault place = codes "error log " ++ decimal fault ++ codes " " ++ decim
 -- The line that is due. The place of a fault is the first byte at which a reply departs from its form, counted from its
 -- own first byte; the number of updates that its client holds; or the place of an update in the history, from 1 on.
 abbrev pub line_of_follow : List ℕ → FollowEnding → List ℕ
-line_of_follow name FileFailed = stop_line name S.FileFailed
-line_of_follow name FileTooLarge = stop_line name S.FileTooLarge
+line_of_follow name FileFailed = input_fault_line name S.FileFailed
+line_of_follow name FileTooLarge = input_fault_line name S.FileTooLarge
 line_of_follow name Memory = codes "error memory\n"
 line_of_follow name (Line at) = log_line 1 at
 line_of_follow name (Gap from have) = log_line 2 from

@@ -3,7 +3,7 @@ use Rattle.std.specs.Prelude.{ℕ, List, ◌++◌, codes, decimal}
 use Rattle.kn_transcript.specs.declared.fault.TranscriptFault.{TranscriptFault}
 use Rattle.kn_transcript.specs.declared.fault.TranscriptFault.TheVariants as F
 use Rattle.kn_words.specs.Names.{VerifyNames}
-use Rattle.kn_inputs.specs.Stops.{status_of, stop_line}
+use Rattle.kn_inputs.specs.InputFaults.{status_of, input_fault_line}
 use Rattle.kn_endings.specs.declared.verify_ending.VerifyEnding.{VerifyEnding}
 use Rattle.kn_endings.specs.declared.verify_ending.VerifyEnding.TheVariants.{PolicyStopped, ScriptStopped}
 use Rattle.kn_endings.specs.declared.verify_ending.VerifyEnding.TheVariants.{RepliesStopped, Faulty, Verified}
@@ -25,8 +25,7 @@ verified_line answers version = codes "VERIFIED " ++ decimal answers ++ codes " 
 
 -- the line that tells the number and the place of a transcript's fault
 unfoldable pub transcript_line : ℕ → ℕ → List ℕ
-transcript_line fault place =
-    codes "error transcript " ++ decimal fault ++ codes " " ++ decimal place ++ codes "\n"
+transcript_line fault place = codes "error transcript " ++ decimal fault ++ codes " " ++ decimal place ++ codes "\n"
 
 -- The line of a fault. Its place is the number of the request, counted from 1, or how many bytes the replies to all
 -- requests have.
@@ -40,8 +39,8 @@ line_of_transcript F.NoMemory = codes "error memory\n"
 
 -- the line that is due
 abbrev pub line_of_verify : VerifyNames → VerifyEnding → List ℕ
-line_of_verify names (PolicyStopped stop) = stop_line names.policy stop
-line_of_verify names (ScriptStopped stop) = stop_line names.script stop
-line_of_verify names (RepliesStopped stop) = stop_line names.replies stop
+line_of_verify names (PolicyStopped stop) = input_fault_line names.policy stop
+line_of_verify names (ScriptStopped stop) = input_fault_line names.script stop
+line_of_verify names (RepliesStopped stop) = input_fault_line names.replies stop
 line_of_verify names (Faulty fault) = line_of_transcript fault
 line_of_verify names (Verified answers version) = verified_line answers version

@@ -3,15 +3,15 @@ ghost use Rattle.std.specs.Prelude.{◌≡◌};
 ghost use Rattle.kn_endings.specs.AskEndings.{status_of_ended};
 
 use kn_daemon::ended::Ended;
-use kn_inputs::Stop;
+use kn_inputs::InputFault;
 
 /// Why `ask` ends.
 #[derive(Clone, Copy, PartialEq, Eq)]
 pub enum AskEnding {
     /// The policy file could not be read or loaded.
-    PolicyStopped(Stop),
+    PolicyStopped(InputFault),
     /// The key file could not be read.
-    KeysStopped(Stop),
+    KeysStopped(InputFault),
     /// The link was served, and its connection ended so.
     Served(Ended),
 }

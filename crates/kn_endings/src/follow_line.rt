@@ -5,7 +5,7 @@ ghost use Rattle.kn_endings.specs.FollowEndings.{line_of_follow, followed_line, 
 use crate::follow_ending::FollowEnding;
 use crate::line::{print_all, print_line};
 use itoa::Buffer;
-use kn_inputs::Stop;
+use kn_inputs::InputFault;
 use kn_outside::{Failed, Sink, write_all};
 
 /// Prints the line of a replica of so many updates, of which so many credentials are live.
@@ -49,8 +49,8 @@ pub fn print_follow<O: Sink>(out: &mut O, ending: FollowEnding, name: &[u8]) -> 
     ensures { Prints (is_whole result) (line_of_follow name.now ending) (O.seen out.old) (O.seen out.new) }
 {
     match ending {
-        FollowEnding::FileFailed => print_line(out, Stop::FileFailed, name),
-        FollowEnding::FileTooLarge => print_line(out, Stop::FileTooLarge, name),
+        FollowEnding::FileFailed => print_line(out, InputFault::FileFailed, name),
+        FollowEnding::FileTooLarge => print_line(out, InputFault::FileTooLarge, name),
         FollowEnding::Memory => write_all(out, b"error memory\n"),
         FollowEnding::Line { at } => print_log_fault(out, 1, at),
         FollowEnding::Gap { from, .. } => print_log_fault(out, 2, from),

@@ -6,8 +6,8 @@
 
 mod ask_ending;
 mod ask_line;
-mod ending;
-mod ending_line;
+mod check_ending;
+mod check_line;
 mod follow_ending;
 mod follow_line;
 mod gen_line;
@@ -17,8 +17,8 @@ mod verify_line;
 
 pub use ask_ending::AskEnding;
 pub use ask_line::print_ask;
-pub use ending::Ending;
-pub use ending_line::print_ending;
+pub use check_ending::CheckEnding;
+pub use check_line::print_check;
 pub use follow_ending::FollowEnding;
 pub use follow_line::print_follow;
 pub use gen_line::print_gen;

@@ -1,12 +1,12 @@
 //! The line that tells what stopped a command.
 ghost use Rattle.std.specs.Prelude.{◌≡◌, ◌++◌, [], true, codes, flat_map};
 ghost use Rattle.kn_outside.specs.Printing.{Prints, is_whole};
-ghost use Rattle.kn_inputs.specs.Stops.{stop_line, policy_fault_line, limit_line, keys_line};
+ghost use Rattle.kn_inputs.specs.InputFaults.{input_fault_line, policy_fault_line, limit_line, keys_line};
 
 use arrayvec::ArrayVec;
 use itoa::Buffer;
 use kn_fields::ReadFault;
-use kn_inputs::Stop;
+use kn_inputs::InputFault;
 use kn_outside::{Failed, Sink, write_all};
 use kn_reply::LimitWord;
 
@@ -124,20 +124,20 @@ fn print_key_line<O: Sink>(out: &mut O, line: usize) -> Result<(), Failed>
 }
 
 /// Prints the line of what stopped a command.
-pub fn print_line<O: Sink>(out: &mut O, stop: Stop, name: &[u8]) -> Result<(), Failed>
-    ensures { Prints (is_whole result) (stop_line name.now stop) (O.seen out.old) (O.seen out.new) }
+pub fn print_line<O: Sink>(out: &mut O, stop: InputFault, name: &[u8]) -> Result<(), Failed>
+    ensures { Prints (is_whole result) (input_fault_line name.now stop) (O.seen out.old) (O.seen out.new) }
 {
     match stop {
-        Stop::Words => write_all(out, b"error words\n"),
-        Stop::FileFailed => print_file(out, name, b" read\n"),
-        Stop::FileTooLarge => print_file(out, name, b" large\n"),
-        Stop::Policy { assertion, fault } => print_fault(out, name, assertion, fault),
-        Stop::Limit {
+        InputFault::Words => write_all(out, b"error words\n"),
+        InputFault::FileFailed => print_file(out, name, b" read\n"),
+        InputFault::FileTooLarge => print_file(out, name, b" large\n"),
+        InputFault::Policy { assertion, fault } => print_fault(out, name, assertion, fault),
+        InputFault::Limit {
             assertion,
             word,
             count,
         } => print_limit(out, name, assertion, word, count),
-        Stop::KeyLine { line } => print_key_line(out, line),
-        Stop::Memory => write_all(out, b"error memory\n"),
+        InputFault::KeyLine { line } => print_key_line(out, line),
+        InputFault::Memory => write_all(out, b"error memory\n"),
     }
 }

@@ -2,18 +2,18 @@
 ghost use Rattle.std.specs.Prelude.{◌≡◌};
 ghost use Rattle.kn_endings.specs.VerifyEndings.{status_of_transcript};
 
-use kn_inputs::Stop;
+use kn_inputs::InputFault;
 use kn_transcript::TranscriptFault;
 
 /// Why `verify` ends.
 #[derive(Clone, Copy, PartialEq, Eq)]
 pub enum VerifyEnding {
     /// The policy file could not be read or loaded.
-    PolicyStopped(Stop),
+    PolicyStopped(InputFault),
     /// The file of the script could not be read.
-    ScriptStopped(Stop),
+    ScriptStopped(InputFault),
     /// The file of the replies could not be read.
-    RepliesStopped(Stop),
+    RepliesStopped(InputFault),
     /// The transcript isn't accepted, or memory ran out.
     Faulty(TranscriptFault),
     /// It is accepted: `answers` replies give a value, and there are `version` updates behind it.

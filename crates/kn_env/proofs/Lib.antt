@@ -1,4 +1,4 @@
-pub mod Keyed
+pub mod AttributeMaps
 pub mod Places
 pub mod Requesters
 pub mod ValueNames

@@ -1,4 +1,4 @@
-//! Local constants.
+//! The local constants of an assertion, by their names.
 use kn_base::Octets;
 
 /// A local constant of an assertion (RFC 2704, section 4, the Local-Constants field).

@@ -1,4 +1,4 @@
-//! Compliance values.
+//! The compliance values of a query, by their names, and why a text has none.
 ghost use Rattle.std.specs.Prelude.{◌≡◌, ◌⊎◌, ◌<◌, ◌≤◌, ◌+◌, ◌-◌, ◌&&◌, ◌==◌, ℕ, [], true, Some, None};
 ghost use Rattle.std.specs.Prelude.{length, slice_get, slice_index_or, take, IfOk, IfErr, IfSome, nat_le, count_by};
 ghost use Rattle.std.specs.List.{list_all, list_any, join_with_byte, AllByRecursion, IsDistinct};

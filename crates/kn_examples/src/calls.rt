@@ -31,7 +31,7 @@ pub fn private_ids()
     ensures taken { (take_private 3 session).privates ≡ numbered_text 1 (codes "ab") ∷ [] }
     ensures next { (add_private (codes "d") (take_private 3 session)).privates
         ≡ numbered_text 1 (codes "ab") ∷ numbered_text 4 (codes "d") ∷ [] }
-    ensures told { call_answer (Q.Assert (codes "d")) session ≡ A.Added 4 }
+    ensures exact { call_answer (Q.Assert (codes "d")) session ≡ A.Added 4 }
     ensures first { call_answer (Q.Assert (codes "d")) (empty 1) ≡ A.Added 1 }
     ensures fault { retract_fault 2 session ≡ Some (F.NoSuch 2) }
     ensures no_fault { retract_fault 1 session ≡ None }

@@ -39,7 +39,7 @@ pub fn refused_removals()
         → length past ≡ 65536 → refusal_of_id past id ≡ Some (HistoryFull 65536) }
 {}
 
-/// What refuses an addition: of several limits that are met the first is told, with what is counted before the
+/// What refuses an addition: of several limits that are met the first is named, with what is counted before the
 /// addition.
 pub fn refused_additions()
     ensures nothing_there { refusal_of_text [] (codes "ab") ≡ None }

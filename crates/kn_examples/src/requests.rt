@@ -2,8 +2,8 @@
 
 ghost use Rattle.std.specs.Prelude.{◌≡◌, ◌∷◌, [], true, false, codes, Some};
 ghost use Rattle.kn_wire.specs.Requests as Q;
-ghost use Rattle.kn_wire.specs.Requests.{first_of, are_digits};
-ghost use Rattle.kn_wire.specs.Digits.{digit_value, bytes_of_digits};
+ghost use Rattle.kn_wire.specs.Requests.{first_of, is_hex};
+ghost use Rattle.kn_wire.specs.Hex.{digit_value, bytes_of_hex};
 ghost use Rattle.kn_wire.specs.declared.fault.WireFault.TheVariants as F;
 
 /// Lines that end something.
@@ -41,7 +41,7 @@ pub fn assertion_lines()
 
 /// Lines that set and unset attributes.
 pub fn attribute_lines()
-    ensures set_digits { first_of (codes "SETX 1 v 312e32\n") ≡ Some (Q.SetHex 1 (codes "v") (codes "312e32"), []) }
+    ensures set_hex { first_of (codes "SETX 1 v 312e32\n") ≡ Some (Q.SetHex 1 (codes "v") (codes "312e32"), []) }
     ensures set_empty { first_of (codes "SETX 1 v \n") ≡ Some (Q.SetHex 1 (codes "v") [], []) }
     ensures set_name_alone { first_of (codes "SETX 1 v\n") ≡ Some (Q.SetHex 1 (codes "v") [], []) }
     ensures set_odd { first_of (codes "SETX 1 v 312\n") ≡ Some (Q.Faulty F.Syntax, []) }
@@ -69,11 +69,11 @@ pub fn hexadecimal_digits()
     ensures fifteen { digit_value 102 ≡ 15 }
     ensures fifteen_in_upper_case { digit_value 70 ≡ 15 }
     ensures nine { digit_value 57 ≡ 9 }
-    ensures secret { bytes_of_digits (codes "733363726574") ≡ codes "s3cret" }
-    ensures either_case { bytes_of_digits (codes "0aA0fF") ≡ 10 ∷ 160 ∷ 255 ∷ [] }
-    ensures text { bytes_of_digits (codes "312e32") ≡ codes "1.2" }
-    ensures letters { are_digits (codes "0123456789abcdefABCDEF") ≡ true }
-    ensures no_letter { are_digits (codes "0g") ≡ false }
-    ensures odd { are_digits (codes "abc") ≡ false }
-    ensures nothing { are_digits [] ≡ true }
+    ensures secret { bytes_of_hex (codes "733363726574") ≡ codes "s3cret" }
+    ensures either_case { bytes_of_hex (codes "0aA0fF") ≡ 10 ∷ 160 ∷ 255 ∷ [] }
+    ensures text { bytes_of_hex (codes "312e32") ≡ codes "1.2" }
+    ensures letters { is_hex (codes "0123456789abcdefABCDEF") ≡ true }
+    ensures no_letter { is_hex (codes "0g") ≡ false }
+    ensures odd { is_hex (codes "abc") ≡ false }
+    ensures nothing { is_hex [] ≡ true }
 {}

@@ -1,37 +1,40 @@
 -- The first fault and the first departure, place by place.
 use Rattle.std.proofs.Common.{◌≡◌, ℕ, Bool, List, [], ◌∷◌, ◌++◌, Option, Some, None, if◌then◌else◌, refl}
 use Rattle.std.specs.Option.{option_or}
-use Rattle.kn_lex.specs.Cutting.{Seen}
+use Rattle.kn_lex.specs.Cutting.{TokenView}
 use Rattle.kn_fields.specs.Fields.{Field, field_with}
 use Rattle.kn_fields.specs.Faults.{is_bad_field, is_second}
-use Rattle.kn_fields.specs.Turns.{turn_behind, departs}
+use Rattle.kn_fields.specs.Expectations.{expecting_behind, departs}
 use Rattle.kn_fields.specs.Scanning.{first_place, order_place, version_place, end_place, departure, constant_place}
 use Rattle.kn_fields.specs.Scanning.{fault_at, fault_without, fault_in}
-use Rattle.kn_fields.specs.declared.constants.Turn.TheVariants.{Setting}
+use Rattle.kn_fields.specs.declared.constants.Expecting.TheVariants.{Setting}
 use Rattle.kn_fields.specs.declared.fault.ReadFault.{ReadFault}
 use Rattle.kn_fields.specs.declared.fault.ReadFault.TheVariants.{BadField, FieldTwice, FieldOrder, NoAuthorizer}
 use Rattle.kn_fields.specs.declared.fault.ReadFault.TheVariants.{Version, Constant}
-use Rattle.kn_fields.proofs.Lists.{turns}
+use Rattle.kn_fields.proofs.Lists.{expecting_steps}
 
-pub place_over : (is_bad : List Seen → Seen → Bool) (before : List Seen) → first_place is_bad before [] ≡ None
+pub place_over : (is_bad : List TokenView → TokenView → Bool) (before : List TokenView)
+    → first_place is_bad before [] ≡ None
 unfolding first_place
 place_over is_bad before = refl
 
-pub place_here : (is_bad : List Seen → Seen → Bool) (before : List Seen) (token : Seen) (tokens : List Seen)
+pub place_here : (is_bad : List TokenView → TokenView → Bool) (before : List TokenView) (token : TokenView)
+    (tokens : List TokenView)
     → first_place is_bad before (token ∷ tokens)
     ≡ (if is_bad before token then Some token.span.start else first_place is_bad (before ++ token ∷ []) tokens)
 unfolding first_place
 place_here is_bad before token tokens = refl
 
-pub departure_by : (tokens : List Seen) (label : Option ℕ)
-    → departure tokens label ≡ option_or (first_place departs [] tokens) (end_place label (turn_behind Setting tokens))
+pub departure_by : (tokens : List TokenView) (label : Option ℕ)
+    → departure tokens label
+    ≡ option_or (first_place departs [] tokens) (end_place label (expecting_behind Setting tokens))
 unfolding departure
 departure_by tokens label = refl
 
 -- a step of the loop that looks for a departure
-pub ruleset departure_steps = (turns, place_over, place_here, departure_by)
+pub ruleset departure_steps = (expecting_steps, place_over, place_here, departure_by)
 
-pub fault_in_order : (tokens : List Seen)
+pub fault_in_order : (tokens : List TokenView)
     → fault_in tokens
     ≡ fault_at BadField (first_place is_bad_field [] tokens) (fault_at FieldTwice (first_place is_second [] tokens)
     (fault_at FieldOrder (order_place tokens)

@@ -242,5 +242,4 @@ closed_sound text words_of tree_of read sound words x rest e =
 pub closed_complete : {X : Type 0} (text : List ℕ) (read : Reader X) (inner rest : List Word) (x : X)
     → read (inner ++ sign_word text ∷ rest) ≡ Some (x, sign_word text ∷ rest)
     → then_read (read ((inner ++ sign_word text ∷ []) ++ rest)) (closed_by text) ≡ Some (x, rest)
-closed_complete text read inner rest x e =
-    cc (append_assoc inner (sign_word text ∷ []) rest, marked_there text rest)
+closed_complete text read inner rest x e = cc (append_assoc inner (sign_word text ∷ []) rest, marked_there text rest)

@@ -3,13 +3,13 @@ pub mod Between
 pub mod Parts
 pub mod Lists
 pub mod Places
-pub mod Shown
-pub mod Deep
-pub mod Told
+pub mod FirstFaults
+pub mod DepthScan
+pub mod ComputedFields
 pub mod Stretches
 pub mod Words
 pub mod Steps
 pub mod Levels
 pub mod Nesting
 pub mod Firsts
-pub mod Named
+pub mod NameSets

@@ -3,12 +3,12 @@ use Rattle.std.proofs.Common.{◌≡◌, ℕ, ◌+◌, ◌-◌, ◌≤◌, true,
 use Rattle.std.proofs.Common.{arith}
 use Rattle.std.specs.Str.{bytes_eq}
 use Rattle.std.proofs.lemmas.Bool.Decides.{nat_tests}
-use Rattle.kn_lex.specs.Cutting.{Seen}
+use Rattle.kn_lex.specs.Cutting.{TokenView}
 use Rattle.kn_fields.specs.Depth.{depth_behind, run_behind, IsTooDeep}
 use Rattle.kn_fields.specs.Scanning.{is_past, goes_deep}
 use Rattle.kn_fields.specs.Words.{Word, word_of, words_of}
 use Rattle.kn_fields.specs.Words.Word.{sign as sign_word}
-use Rattle.kn_fields.proofs.Deep.{deep_shown}
+use Rattle.kn_fields.proofs.DepthScan.{deep_shown}
 
 -- the brackets that are open behind a word
 abbrev sign_depth : ℕ → List ℕ → ℕ
@@ -30,11 +30,11 @@ abbrev pub word_run : ℕ → Word → ℕ
 word_run run (sign_word text) = sign_run run text
 word_run run word = 0
 
-depth_of : (depth : ℕ) (token : Seen) → depth_behind depth token ≡ word_depth depth (word_of token)
+depth_of : (depth : ℕ) (token : TokenView) → depth_behind depth token ≡ word_depth depth (word_of token)
 unfolding depth_behind
 depth_of depth token = grind arith
 
-run_of : (run : ℕ) (token : Seen) → run_behind run token ≡ word_run run (word_of token)
+run_of : (run : ℕ) (token : TokenView) → run_behind run token ≡ word_run run (word_of token)
 unfolding run_behind
 run_of run token = grind arith
 
@@ -43,14 +43,14 @@ unfoldable pub Fits : ℕ → ℕ → List Word → Type 0
 Fits depth run [] = (depth ≤ 64) × (run ≤ 8)
 Fits depth run (word ∷ words) = (depth ≤ 64) × (run ≤ 8) × Fits (word_depth depth word) (word_run run word) words
 
-fits_tokens : (depth run : ℕ) (tokens : List Seen) → (is_past depth run || goes_deep depth run tokens) ≡ false
+fits_tokens : (depth run : ℕ) (tokens : List TokenView) → (is_past depth run || goes_deep depth run tokens) ≡ false
     → Fits depth run (words_of tokens)
 unfolding Fits words_of goes_deep
 fits_tokens depth run [] shallow = grind (arith, nat_tests)
 fits_tokens depth run (token ∷ tokens) shallow =
     grind (arith, nat_tests, depth_of, run_of, fits_tokens (depth_behind depth token) (run_behind run token) tokens)
 
-pub shallow_fits : (tokens : List Seen) → (IsTooDeep tokens → ⊥) → Fits 0 0 (words_of tokens)
+pub shallow_fits : (tokens : List TokenView) → (IsTooDeep tokens → ⊥) → Fits 0 0 (words_of tokens)
 shallow_fits tokens shallow =
     fits_tokens 0 0 tokens (grind (arith, λ (deep : true ≡ goes_deep 0 0 tokens). shallow (deep_shown tokens deep)))
 

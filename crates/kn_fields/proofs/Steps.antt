@@ -6,8 +6,8 @@ use Rattle.std.proofs.lemmas.List.{append_assoc}
 use Rattle.kn_fields.specs.Words.{Word}
 use Rattle.kn_fields.specs.Reading.{Read, Reader, map_read, then_read, behind_sign, with_front, more_at, tail_at}
 use Rattle.kn_fields.specs.Reading.{list_at, whole, Reads, ReadsWhole}
-use Rattle.kn_fields.specs.declared.unread.Unread.{Unread}
-use Rattle.kn_fields.specs.declared.unread.Unread.TheVariants.{Syntax, NoMemory}
+use Rattle.kn_fields.specs.declared.grammar_fault.GrammarFault.{GrammarFault}
+use Rattle.kn_fields.specs.declared.grammar_fault.GrammarFault.TheVariants.{Syntax, NoMemory}
 
 -- what is read, taken apart
 
@@ -60,21 +60,23 @@ whole_read read x e = grind arith
 -- what the code gives
 
 -- another reading that is the same
-pub reads_along : {X : Type 0} {one other : Read X} (result : Result X Unread) (rest : List Word) → other ≡ one
+pub reads_along : {X : Type 0} {one other : Read X} (result : Result X GrammarFault) (rest : List Word) → other ≡ one
     → Reads result one rest → Reads result other rest
 reads_along result rest is read = rw is read
 
 -- the fault of a part of what is read is that of all of it
-pub fault_of_part : {X Y : Type 0} (unread : Unread) (part : Read X) (all : Read Y) (rest left : List Word)
-    → Reads {X = X} (Err unread) part rest → (part ≡ None → all ≡ None) → Reads {X = Y} (Err unread) all left
+pub fault_of_part : {X Y : Type 0} (grammar_fault : GrammarFault) (part : Read X) (all : Read Y) (rest left : List Word)
+    → Reads {X = X} (Err grammar_fault) part rest → (part ≡ None → all ≡ None)
+    → Reads {X = Y} (Err grammar_fault) all left
 fault_of_part Syntax part all rest left read go = go read
 fault_of_part NoMemory part all rest left read go = tt
 
 -- so where the fault is handed on
-pub fault_handed_on : {X Y : Type 0} {part : Read X} {all : Read Y} (unread : Unread) (rest left : List Word)
-    (result : Result Y Unread) → IsErrAnd result (λ e. e ≡ unread)
-    → Reads {X = X} (Err unread) part rest → (part ≡ None → all ≡ None) → Reads result all left
-fault_handed_on unread rest left result handed read go = grind arith
+pub fault_handed_on : {X Y : Type 0} {part : Read X} {all : Read Y} (grammar_fault : GrammarFault)
+    (rest left : List Word)
+    (result : Result Y GrammarFault) → IsErrAnd result (λ e. e ≡ grammar_fault)
+    → Reads {X = X} (Err grammar_fault) part rest → (part ≡ None → all ≡ None) → Reads result all left
+fault_handed_on grammar_fault rest left result handed read go = grind arith
 
 -- a list, of which some items are read
 
@@ -180,7 +182,8 @@ pub whole_more : {X : Type 0} (x : X) (rest more : List Word) (word : Word) → 
     → whole (Some (x, rest)) ≡ None
 whole_more x rest more word is = grind arith
 
-pub whole_fault : {X : Type 0} (unread : Unread) (read : Read X) (wanted : Option X) (rest : List Word)
-    (result : Result X Unread) → IsErrAnd result (λ e. e ≡ unread) → Reads {X = X} (Err unread) read rest
+pub whole_fault : {X : Type 0} (grammar_fault : GrammarFault) (read : Read X) (wanted : Option X) (rest : List Word)
+    (result : Result X GrammarFault) → IsErrAnd result (λ e. e ≡ grammar_fault)
+    → Reads {X = X} (Err grammar_fault) read rest
     → wanted ≡ whole read → ReadsWhole result wanted
-whole_fault unread read wanted rest result handed none is = grind arith
+whole_fault grammar_fault read wanted rest result handed none is = grind arith

@@ -4,20 +4,20 @@ use Rattle.std.proofs.Common.{arith}
 use Rattle.std.specs.Str.{bytes_eq}
 use Rattle.std.proofs.lemmas.Option.{some_pair_parts}
 use Rattle.std.proofs.lemmas.Slice.Eq.{bytes_eq-Decides}
-use Rattle.kn_lex.specs.Cutting.{Seen}
+use Rattle.kn_lex.specs.Cutting.{TokenView}
 use Rattle.kn_fields.specs.Fields.{between}
 use Rattle.kn_fields.specs.Words.{Word, Mark, words_of, first_sign, rest_of, with_rest, itself, mark_if}
 use Rattle.kn_fields.specs.Reading.{taken, marked, named}
 use Rattle.kn_fields.specs.Words.Word.{name, sign}
 use Rattle.kn_fields.proofs.Between.{steps, between_length}
 
-pub length_words : (tokens : List Seen) → length (words_of tokens) ≡ length tokens
+pub length_words : (tokens : List TokenView) → length (words_of tokens) ≡ length tokens
 unfolding words_of
 length_words [] = refl
 length_words (token ∷ tokens) = grind (arith, length_words tokens)
 
 -- as many words as places
-pub words_length : (tokens : List Seen) (at end : ℕ) → at ≤ end → end ≤ length tokens
+pub words_length : (tokens : List TokenView) (at end : ℕ) → at ≤ end → end ≤ length tokens
     → end - at ≡ length (words_of (between at end tokens))
 words_length tokens at end ordered within = grind (arith, length_words, between_length)
 

@@ -6,7 +6,7 @@ use Rattle.std.specs.List.{list_any}
 use Rattle.std.specs.Str.{bytes_eq}
 use Rattle.kn_base.specs.declared.limits.TheConstants.{ASSERTION_BYTES}
 use Rattle.kn_env.specs.declared.constant.Constant.{Constant as Set}
-use Rattle.kn_lex.specs.Cutting.{Seen, Cuts}
+use Rattle.kn_lex.specs.Cutting.{TokenView, Cuts}
 use Rattle.kn_lex.specs.Faults.{IsFaultless, IsFirstLexicalFault}
 use Rattle.kn_lex.specs.Literal.{literal_value}
 use Rattle.kn_lex.specs.declared.fault.LexFault.{LexFault}
@@ -22,39 +22,39 @@ use Rattle.kn_fields.specs.declared.fault.ReadFault.TheVariants.{Blank, TooLong,
 use Rattle.kn_fields.specs.declared.fault.ReadFault.TheVariants.{NoAuthorizer, Version, Constant, NoMemory}
 
 -- no token is bad behind those before it
-abbrev pub HasNone : (List Seen → Seen → Bool) → List Seen → Type 0
+abbrev pub HasNone : (List TokenView → TokenView → Bool) → List TokenView → Type 0
 HasNone is_bad tokens =
-    (before : List Seen) (token : Seen) (behind : List Seen) → tokens ≡ before ++ token ∷ behind
+    (before : List TokenView) (token : TokenView) (behind : List TokenView) → tokens ≡ before ++ token ∷ behind
     → is_bad before token ≡ false
 
 -- the first token that is bad behind those before it stands at this place
-pub record HasFirst (is_bad : List Seen → Seen → Bool) (tokens : List Seen) (at : ℕ) : Type 0 where
-  pub before : List Seen
-  pub token : Seen
-  pub behind : List Seen
+pub record HasFirst (is_bad : List TokenView → TokenView → Bool) (tokens : List TokenView) (at : ℕ) : Type 0 where
+  pub before : List TokenView
+  pub token : TokenView
+  pub behind : List TokenView
   pub here : tokens ≡ before ++ token ∷ behind
   pub bad : is_bad before token ≡ true
   pub first : HasNone is_bad before
   pub place : at ≡ token.span.start
 
 -- a token that is the text's first, or stands at the beginning of a line, and is no label of a field
-abbrev pub is_bad_field : List Seen → Seen → Bool
+abbrev pub is_bad_field : List TokenView → TokenView → Bool
 is_bad_field before token = (length before == 0 || token.first) && is_none (field_of token)
 
-abbrev pub is_repeat : List Seen → Option ℕ → Bool
+abbrev pub is_repeat : List TokenView → Option ℕ → Bool
 is_repeat before None = false
 is_repeat before (Some number) = list_any (is_label_of number) before
 
 -- a label whose field stood before
-abbrev pub is_second : List Seen → Seen → Bool
+abbrev pub is_second : List TokenView → TokenView → Bool
 is_second before token = is_repeat before (field_of token)
 
 -- the label of a version that isn't the first label
-abbrev pub is_late_version : List Seen → Seen → Bool
+abbrev pub is_late_version : List TokenView → TokenView → Bool
 is_late_version before token = is_label_of 4 token && list_any is_label before
 
 -- a label behind that of a signature
-abbrev pub is_behind_signature : List Seen → Seen → Bool
+abbrev pub is_behind_signature : List TokenView → TokenView → Bool
 is_behind_signature before token = is_label token && list_any (is_label_of 7) before
 
 -- the text is the digit 2
@@ -67,23 +67,23 @@ is_two_by S.Text text = is_two (literal_value text)
 is_two_by sort text = false
 
 -- one number spelled `2`, or one literal of value `2`
-abbrev pub is_version : List Seen → Bool
+abbrev pub is_version : List TokenView → Bool
 is_version [] = false
 is_version (token ∷ []) = is_two_by token.sort token.text
 is_version (token ∷ next ∷ tokens) = false
 
--- the list of constants departs at this place, or breaks off at its end, which is told by the label's place
+-- the list of constants departs at this place, or breaks off at its end, which is reported by the label's place
 abbrev pub DepartsAt : Field → ℕ → Type 0
 DepartsAt field at =
     HasDeparture field.tokens at
     ⊎ (BeginsConstantList field.tokens × (IsConstantList field.tokens → ⊥) × (at ≡ field.label.span.start))
 
 -- there is a field of this number, and it is so
-abbrev pub HasField : ℕ → List Seen → (Field → Type 0) → Type 0
+abbrev pub HasField : ℕ → List TokenView → (Field → Type 0) → Type 0
 HasField number tokens IsSo = (field : Field) × (field_with number tokens ≡ Some field) × IsSo field
 
 -- the tokens show this fault
-abbrev pub Shows : List Seen → ReadFault → Type 0
+abbrev pub Shows : List TokenView → ReadFault → Type 0
 Shows tokens (BadField at) = HasFirst is_bad_field tokens at
 Shows tokens (FieldTwice at) = HasFirst is_second tokens at
 Shows tokens (FieldOrder at) =
@@ -96,7 +96,7 @@ Shows tokens _ = ⊥
 
 -- the text has no lexical fault, and its tokens show this one
 pub record TokensShow (text : List ℕ) (fault : ReadFault) : Type 0 where
-  pub tokens : List Seen
+  pub tokens : List TokenView
   pub cut : Cuts text tokens
   pub faultless : IsFaultless text
   pub shown : Shows tokens fault

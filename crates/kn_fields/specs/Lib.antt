@@ -1,6 +1,6 @@
 pub mod Fields
 pub mod Constants
-pub mod Turns
+pub mod Expectations
 pub mod Numbers
 pub mod Faults
 pub mod Depth

@@ -1,4 +1,4 @@
--- The numbers of the faults of a text, and the places that are told with them (keynoted's own).
+-- The numbers of the faults of a text, and the places that are given with them (keynoted's own).
 use Rattle.std.specs.Prelude.{ℕ, Option, Some, None, option_map}
 use Rattle.std.specs.Option.{option_map_or}
 use Rattle.kn_fields.specs.declared.fault.ReadFault.{ReadFault}
@@ -7,7 +7,7 @@ use Rattle.kn_fields.specs.declared.fault.ReadFault.TheVariants.{Blank, TooLong,
 use Rattle.kn_fields.specs.declared.fault.ReadFault.TheVariants.{NoAuthorizer, Version, Constant, TooDeep, Syntax, Kind}
 use Rattle.kn_fields.specs.declared.fault.ReadFault.TheVariants.{Threshold, Name, NoMemory}
 
--- the number of a fault, and the place that is told with it
+-- the number of a fault, and the place that is given with it
 abbrev pub fault_code : ReadFault → Option (ℕ × ℕ)
 fault_code (NotText at) = Some (1, at)
 fault_code (BadString at) = Some (2, at)

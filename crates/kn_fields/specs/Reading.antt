@@ -2,8 +2,8 @@
 use Rattle.std.specs.Prelude.{◌≡◌, ℕ, zero, suc, List, [], ◌∷◌, ◌++◌, Option, Some, None, Result, Ok, Err}
 use Rattle.kn_fields.specs.Words.{Word, Mark, with_rest, itself}
 use Rattle.kn_fields.specs.Words.Word.{name, sign}
-use Rattle.kn_fields.specs.declared.unread.Unread.{Unread}
-use Rattle.kn_fields.specs.declared.unread.Unread.TheVariants.{Syntax, NoMemory}
+use Rattle.kn_fields.specs.declared.grammar_fault.GrammarFault.{GrammarFault}
+use Rattle.kn_fields.specs.declared.grammar_fault.GrammarFault.TheVariants.{Syntax, NoMemory}
 
 -- what is read, and the words behind it
 abbrev pub Read : Type 0 → Type 0
@@ -76,13 +76,13 @@ whole (Some (read, [])) = Some read
 whole (Some (read, word ∷ words)) = None
 
 -- what the code gives of such a reading, and the words that it leaves
-abbrev pub Reads : {X : Type 0} → Result X Unread → Read X → List Word → Type 0
+abbrev pub Reads : {X : Type 0} → Result X GrammarFault → Read X → List Word → Type 0
 Reads (Ok read) wanted rest = wanted ≡ Some (read, rest)
 Reads (Err Syntax) wanted rest = wanted ≡ None
 Reads (Err NoMemory) wanted rest = Unit {0}
 
 -- what the code gives of all the words
-abbrev pub ReadsWhole : {X : Type 0} → Result X Unread → Option X → Type 0
+abbrev pub ReadsWhole : {X : Type 0} → Result X GrammarFault → Option X → Type 0
 ReadsWhole (Ok read) wanted = wanted ≡ Some read
 ReadsWhole (Err Syntax) wanted = wanted ≡ None
 ReadsWhole (Err NoMemory) wanted = Unit {0}

@@ -1,7 +1,7 @@
 -- The tokens of a field as its grammar sees them.
 use Rattle.std.specs.Prelude.{ℕ, Bool, true, false, List, [], ◌∷◌, Option, Some, None, if◌then◌else◌}
 use Rattle.std.specs.Str.{bytes_eq}
-use Rattle.kn_lex.specs.Cutting.{Seen}
+use Rattle.kn_lex.specs.Cutting.{TokenView}
 use Rattle.kn_lex.specs.Literal.{literal_value}
 use Rattle.kn_lex.specs.declared.token.Sort.{Sort}
 use Rattle.kn_lex.specs.declared.token.Sort.TheVariants.{Name, Number, Text, Sign}
@@ -22,10 +22,10 @@ word_by Text text = literal (literal_value text)
 word_by Sign text = sign text
 word_by sort text = other
 
-abbrev pub word_of : Seen → Word
+abbrev pub word_of : TokenView → Word
 word_of token = word_by token.sort token.text
 
-unfoldable pub words_of : List Seen → List Word
+unfoldable pub words_of : List TokenView → List Word
 words_of [] = []
 words_of (token ∷ tokens) = word_of token ∷ words_of tokens
 

@@ -1,11 +1,11 @@
 //! The field Local-Constants.
 ghost use Rattle.std.specs.Prelude.{◌≡◌, ◌+◌, ◌<◌, ◌≤◌, ◌^◌, [], ◌∷◌, ◌++◌};
 ghost use Rattle.std.specs.Prelude.{Some, None, length, slice_get, slice_index, IfOk, OnOk};
-ghost use Rattle.kn_lex.specs.Cutting.{Seen};
-ghost use Rattle.kn_lex.specs.Seeing.{seen};
+ghost use Rattle.kn_lex.specs.Cutting.{TokenView};
+ghost use Rattle.kn_lex.specs.TokenViews.{token_view};
 ghost use Rattle.kn_fields.specs.Fields.{between, field_with};
 ghost use Rattle.kn_fields.specs.Constants.{constant_of, constants_of, AreSettings};
-ghost use Rattle.kn_fields.specs.Turns.{AreNames, next_turn, fits};
+ghost use Rattle.kn_fields.specs.Expectations.{AreNames, next_expecting, fits};
 ghost use Rattle.kn_fields.specs.Faults.{constants_in};
 ghost use Rattle.kn_fields.specs.Scanning.{end_place, departure, constant_place};
 
@@ -20,7 +20,7 @@ use std::collections::BTreeSet;
 
 /// What is due next in a list of constants.
 #[derive(Clone, Copy)]
-pub enum Turn {
+pub enum Expecting {
     /// The name of a further constant.
     Setting,
     /// The sign `=`.
@@ -29,13 +29,13 @@ pub enum Turn {
     Value,
 }
 
-fn next_turn(turn: Turn) -> Turn
-    ensures { result ≡ next_turn turn }
+fn next_expecting(expecting: Expecting) -> Expecting
+    ensures { result ≡ next_expecting expecting }
 {
-    match turn {
-        Turn::Setting => Turn::Equals,
-        Turn::Equals => Turn::Value,
-        Turn::Value => Turn::Setting,
+    match expecting {
+        Expecting::Setting => Expecting::Equals,
+        Expecting::Equals => Expecting::Value,
+        Expecting::Value => Expecting::Setting,
     }
 }
 
@@ -44,8 +44,8 @@ type Names<'a> = BTreeSet<&'a [u8]>;
 
 /// Adds a token to the names of those before it, if it is a name.
 fn add_name<'a>(names: &mut Names<'a>, token: &Token<'a>) -> Result<(), NoMemory>
-    ensures { (before : List Seen) → AreNames names.old before
-        → OnOk result (AreNames names.new (before ++ seen token.now ∷ [])) }
+    ensures { (before : List TokenView) → AreNames names.old before
+        → OnOk result (AreNames names.new (before ++ token_view token.now ∷ [])) }
 {
     if !matches!(token.sort, Sort::Name) {
         return Ok(());
@@ -58,7 +58,8 @@ fn add_name<'a>(names: &mut Names<'a>, token: &Token<'a>) -> Result<(), NoMemory
 
 /// Whether a token may be set: a name that doesn't begin with `_` and is none of those before.
 fn is_new_name(names: &Names<'_>, token: &Token<'_>) -> bool
-    ensures { (before : List Seen) → AreNames names.now before → result ≡ fits Turn.Setting before (seen token.now) }
+    ensures { (before : List TokenView) → AreNames names.now before
+        → result ≡ fits Expecting.Setting before (token_view token.now) }
 {
     matches!(token.sort, Sort::Name)
         && first_byte(token.text) != b'_'
@@ -72,24 +73,25 @@ fn first_byte(text: &[u8]) -> u8
 }
 
 /// Whether a token is what is due at its place, behind tokens with these names.
-fn fits(names: &Names<'_>, turn: Turn, token: &Token<'_>) -> bool
-    ensures { (before : List Seen) → AreNames names.now before → result ≡ fits turn before (seen token.now) }
+fn fits(names: &Names<'_>, expecting: Expecting, token: &Token<'_>) -> bool
+    ensures { (before : List TokenView) → AreNames names.now before
+        → result ≡ fits expecting before (token_view token.now) }
 {
-    match turn {
-        Turn::Setting => is_new_name(names, token),
-        Turn::Equals => matches!(token.sort, Sort::Sign) && token.text == b"=".as_slice(),
-        Turn::Value => matches!(token.sort, Sort::Text),
+    match expecting {
+        Expecting::Setting => is_new_name(names, token),
+        Expecting::Equals => matches!(token.sort, Sort::Sign) && token.text == b"=".as_slice(),
+        Expecting::Value => matches!(token.sort, Sort::Text),
     }
 }
 
 /// Where a list breaks off at whose end this is due.
-fn end_place(label: Option<u32>, turn: Turn) -> Option<u32>
-    ensures { result ≡ end_place label turn }
+fn end_place(label: Option<u32>, expecting: Expecting) -> Option<u32>
+    ensures { result ≡ end_place label expecting }
 {
-    match turn {
-        Turn::Setting => None,
-        Turn::Equals => label,
-        Turn::Value => label,
+    match expecting {
+        Expecting::Setting => None,
+        Expecting::Equals => label,
+        Expecting::Value => label,
     }
 }
 
@@ -107,17 +109,17 @@ fn departure(
     ensures { IfOk result (λ place. place ≡ departure (between from to tokens.now) label) }
 {
     let mut names = BTreeSet::new(alloc);
-    let mut turn = Turn::Setting;
+    let mut expecting = Expecting::Setting;
     for i in from..to {
         if let Some(token) = tokens.get(i) {
-            if !fits(&names, turn, token) {
+            if !fits(&names, expecting, token) {
                 return Ok(Some(token.span.start));
             }
             add_name(&mut names, token)?;
         }
-        turn = next_turn(turn);
+        expecting = next_expecting(expecting);
     }
-    Ok(end_place(label, turn))
+    Ok(end_place(label, expecting))
 }
 
 /// Adds the constant whose name, sign and literal stand from this place on.
@@ -128,8 +130,8 @@ fn push_constant(
     at: u32,
 ) -> Result<(), NoMemory>
     requires fits { at + 2 < 2 ^ 32 }
-    requires literal { (value : Seen) → slice_get tokens.now (at + 2) ≡ Some value → value.sort ≡ Sort.Text }
-    ensures { (name value : Seen)
+    requires literal { (value : TokenView) → slice_get tokens.now (at + 2) ≡ Some value → value.sort ≡ Sort.Text }
+    ensures { (name value : TokenView)
         → slice_get tokens.now at ≡ Some name → slice_get tokens.now (at + 2) ≡ Some value
         → OnOk result (list.new ≡ list.old ++ constant_of name value ∷ []) }
 {

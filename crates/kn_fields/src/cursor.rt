@@ -1,13 +1,13 @@
 //! The tokens of a field, one after the other.
 ghost use Rattle.std.specs.Prelude.{◌≡◌, ◌+◌, ◌<◌, ◌≤◌, [], ◌∷◌, length, false, codes, MatchOption};
 ghost use Rattle.std.specs.Option.{option_map};
-ghost use Rattle.kn_lex.specs.Seeing.{seen};
+ghost use Rattle.kn_lex.specs.TokenViews.{token_view};
 ghost use Rattle.kn_fields.specs.Fields.{between};
 ghost use Rattle.kn_fields.specs.Words.{words_of, word_of, first_sign, rest_of, mark_if};
 ghost use Rattle.kn_fields.specs.Reading.{Reads, marked, named};
 
+use crate::grammar_fault::GrammarFault;
 use crate::part::Part;
-use crate::unread::Unread;
 use kn_lex::{Sort, Token, Tokens};
 use std::marker::Model;
 
@@ -58,7 +58,8 @@ impl<'t, 'a> Cursor<'t, 'a> {
     /// The next token, or None at the end of the field.
     #[inline(always)]
     pub fn peek(&self) -> Option<&'t Token<'a>>
-        ensures { MatchOption result (self.now ≡ []) (λ token. self.now ≡ word_of (seen token.now) ∷ rest_of self.now) }
+        ensures { MatchOption result (self.now ≡ []) (λ token. self.now
+            ≡ word_of (token_view token.now) ∷ rest_of self.now) }
     {
         if self.at >= self.end {
             return None;
@@ -83,7 +84,7 @@ impl<'t, 'a> Cursor<'t, 'a> {
     /// Takes the next token, or None at the end of the field.
     #[inline(always)]
     pub fn take(&mut self) -> Option<&'t Token<'a>>
-        ensures { MatchOption result (self.old ≡ []) (λ token. self.old ≡ word_of (seen token.now) ∷ self.new) }
+        ensures { MatchOption result (self.old ≡ []) (λ token. self.old ≡ word_of (token_view token.now) ∷ self.new) }
     {
         let token = self.peek();
         self.step();
@@ -133,28 +134,28 @@ impl<'t, 'a> Cursor<'t, 'a> {
 
     /// Passes this sign, which has to come next.
     #[inline(always)]
-    pub fn expect_sign(&mut self, text: &[u8]) -> Result<(), Unread>
+    pub fn expect_sign(&mut self, text: &[u8]) -> Result<(), GrammarFault>
         ensures { Reads result (marked text.now self.old) self.new }
     {
         if self.take_sign(text) {
             Ok(())
         } else {
-            Err(Unread::Syntax)
+            Err(GrammarFault::Syntax)
         }
     }
 
     /// Passes this name, which has to come next.
     #[tactic(auto, unfolding(crate::specs::Reading::named, crate::specs::Words::itself))]
-    pub fn expect_name(&mut self, text: &[u8]) -> Result<(), Unread>
+    pub fn expect_name(&mut self, text: &[u8]) -> Result<(), GrammarFault>
         ensures { Reads result (named text.now self.old) self.new }
     {
         let Some(token) = self.take() else {
-            return Err(Unread::Syntax);
+            return Err(GrammarFault::Syntax);
         };
         if matches!(token.sort, Sort::Name) && token.text == text {
             Ok(())
         } else {
-            Err(Unread::Syntax)
+            Err(GrammarFault::Syntax)
         }
     }
 }

@@ -1,7 +1,7 @@
 //! How deep the tokens of a field go.
 ghost use Rattle.std.specs.Prelude.{◌≡◌, ◌+◌, ◌<◌, ◌≤◌, ◌^◌, length, MatchOption};
-ghost use Rattle.kn_lex.specs.Cutting.{Seen};
-ghost use Rattle.kn_lex.specs.Seeing.{seen};
+ghost use Rattle.kn_lex.specs.Cutting.{TokenView};
+ghost use Rattle.kn_lex.specs.TokenViews.{token_view};
 ghost use Rattle.kn_fields.specs.Constants.{is_sign_sort};
 ghost use Rattle.kn_fields.specs.Depth.{IsNoSignOfOneByte, IsSignOfByte, depth_behind, run_behind};
 ghost use Rattle.kn_fields.specs.Fields.{between};
@@ -12,9 +12,10 @@ use kn_lex::{Sort, Token, Tokens};
 
 /// The byte of a token that is a sign of one byte.
 #[inline(always)]
-#[tactic(auto, using(crate::proofs::Deep::one_byte))]
+#[tactic(auto, using(crate::proofs::DepthScan::one_byte))]
 fn sign_byte(token: &Token<'_>) -> Option<u8>
-    ensures { MatchOption result (IsNoSignOfOneByte (seen token.now)) (λ byte. IsSignOfByte byte (seen token.now)) }
+    ensures { MatchOption result (IsNoSignOfOneByte (token_view token.now))
+        (λ byte. IsSignOfByte byte (token_view token.now)) }
 {
     if matches!(token.sort, Sort::Sign) && token.text.len() == 1 {
         Some(token.text[0])
@@ -28,7 +29,7 @@ fn sign_byte(token: &Token<'_>) -> Option<u8>
 #[tactic(auto, unfolding(crate::specs::Depth::depth_behind))]
 fn depth_behind(depth: u32, byte: u8) -> u32
     requires { depth + 1 < 2 ^ 32 }
-    ensures { (token : Seen) → IsSignOfByte byte token → result ≡ depth_behind depth token }
+    ensures { (token : TokenView) → IsSignOfByte byte token → result ≡ depth_behind depth token }
 {
     match byte {
         b'(' | b'{' => depth + 1,
@@ -42,7 +43,7 @@ fn depth_behind(depth: u32, byte: u8) -> u32
 #[tactic(auto, unfolding(crate::specs::Depth::run_behind))]
 fn run_behind(run: u32, byte: u8) -> u32
     requires { run + 1 < 2 ^ 32 }
-    ensures { (token : Seen) → IsSignOfByte byte token → result ≡ run_behind run token }
+    ensures { (token : TokenView) → IsSignOfByte byte token → result ≡ run_behind run token }
 {
     match byte {
         b'!' | b'-' | b'@' | b'$' => run + 1,
@@ -57,7 +58,7 @@ fn is_past(depth: u32, run: u32) -> bool
 }
 
 /// Whether the tokens from one place up to another go too deep.
-#[tactic(auto, using(crate::proofs::Deep::deep_steps), unfolding(crate::specs::Scanning::goes_deep))]
+#[tactic(auto, using(crate::proofs::DepthScan::deep_steps), unfolding(crate::specs::Scanning::goes_deep))]
 pub fn goes_deep(tokens: &Tokens<'_>, from: u32, to: u32) -> bool
     requires ordered { from ≤ to }
     requires within { to ≤ length tokens.now }

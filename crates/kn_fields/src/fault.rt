@@ -54,7 +54,7 @@ pub enum ReadFault {
 }
 
 impl ReadFault {
-    /// The number of the fault, from 1 to 19, and the place that is told with it. `NoMemory` has none.
+    /// The number of the fault, from 1 to 19, and the place that is given with it. `NoMemory` has none.
     fn code(&self) -> Option<(u8, usize)>
         ensures { result ≡ fault_code self.now }
     {
@@ -90,7 +90,7 @@ impl ReadFault {
         Some(number)
     }
 
-    /// The place that is told with the fault: `at`, the number of the field, the length of a text that is too
+    /// The place that is given with the fault: `at`, the number of the field, the length of a text that is too
     /// long, and 0 where there is none.
     pub fn place(&self) -> usize
         ensures { result ≡ fault_place self.now }

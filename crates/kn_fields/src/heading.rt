@@ -50,11 +50,11 @@ pub struct LabelledTokens<'a> {
 impl<'a> Model for LabelledTokens<'a> {
     ghost use Rattle.std.specs.Prelude.{◌≡◌, List};
     ghost use Rattle.std.specs.List.{list_any};
-    ghost use Rattle.kn_lex.specs.Cutting.{Seen};
+    ghost use Rattle.kn_lex.specs.Cutting.{TokenView};
     ghost use Rattle.kn_fields.specs.Fields.{fields_of, AreHeadings};
     ghost use Rattle.kn_fields.specs.Scanning.{is_stray};
 
-    ghost Value = { List Seen };
+    ghost Value = { List TokenView };
 
     ghost view = { λ l. l.tokens };
 

@@ -1,22 +1,29 @@
 //! Which field a label names.
 ghost use Rattle.std.specs.Prelude.{◌≡◌};
-ghost use Rattle.kn_lex.specs.Seeing.{seen};
+ghost use Rattle.kn_lex.specs.TokenViews.{token_view};
 ghost use Rattle.kn_fields.specs.Fields.{field_number, is_label, field_of};
 
 use kn_lex::{Sort, Token};
 
+/// The number of the field whose label is `Authorizer:`.
 pub const AUTHORIZER: u8 = 1;
 
+/// The number of the field whose label is `Comment:`.
 pub(crate) const COMMENT: u8 = 2;
 
+/// The number of the field whose label is `Conditions:`.
 pub const CONDITIONS: u8 = 3;
 
+/// The number of the field whose label is `KeyNote-Version:`.
 pub(crate) const VERSION: u8 = 4;
 
+/// The number of the field whose label is `Licensees:`.
 pub const LICENSEES: u8 = 5;
 
+/// The number of the field whose label is `Local-Constants:`.
 pub(crate) const LOCAL_CONSTANTS: u8 = 6;
 
+/// The number of the field whose label is `Signature:`.
 pub const SIGNATURE: u8 = 7;
 
 /// The number of the field that a label names.
@@ -44,7 +51,7 @@ fn field_number(label: &[u8]) -> Option<u8>
 
 #[inline(always)]
 pub(crate) fn is_label(token: &Token<'_>) -> bool
-    ensures { result ≡ is_label (seen token.now) }
+    ensures { result ≡ is_label (token_view token.now) }
 {
     matches!(token.sort, Sort::Label)
 }
@@ -53,7 +60,7 @@ pub(crate) fn is_label(token: &Token<'_>) -> bool
 #[inline(always)]
 #[tactic(auto, unfolding(crate::specs::Fields::field_of))]
 pub(crate) fn field_of(token: &Token<'_>) -> Option<u8>
-    ensures { result ≡ field_of (seen token.now) }
+    ensures { result ≡ field_of (token_view token.now) }
 {
     if is_label(token) {
         field_number(token.text)

@@ -9,10 +9,10 @@ ghost use Rattle.kn_fields.specs.Scanning.{StandsRight, fault_in};
 
 use crate::constants::{constant_place, constants};
 use crate::fault::ReadFault;
+use crate::field_list::Fields;
 use crate::heading::LabelledTokens;
 use crate::label::{AUTHORIZER, SIGNATURE};
-use crate::labels::{Wrong, bad_field_place, order_place, wrong_place};
-use crate::outline::Fields;
+use crate::label_faults::{Wrong, bad_field_place, order_place, wrong_place};
 use crate::part::label_start;
 use crate::version::version_place;
 use kn_base::NoMemory;

@@ -16,17 +16,17 @@ use Rattle.kn_lex.specs.Spelling.{is_blank, is_continuation, is_white_space, is_
 use Rattle.kn_lex.specs.Spelling.{is_label_tail, is_sign, SpellsPlain}
 use Rattle.kn_lex.specs.Cutting.{context_after, is_comment_label}
 use Rattle.kn_lex.specs.Scanning.{body_len, line_len, quote_len, quote_step, len_after, more_len, colon_len}
-use Rattle.kn_lex.specs.Scanning.{plain_piece, piece_at}
+use Rattle.kn_lex.specs.Scanning.{plain_lexeme, lexeme_at}
 use Rattle.kn_lex.specs.declared.quote.Quote.{Quote}
 use Rattle.kn_lex.specs.declared.quote.Quote.TheVariants.{Opening}
 use Rattle.kn_lex.specs.declared.quote.Step.{Step}
 use Rattle.kn_lex.specs.declared.quote.Step.TheVariants.{Fail, Close, Go}
-use Rattle.kn_lex.specs.declared.piece.Piece.TheVariants.{White, Token}
-use Rattle.kn_lex.specs.declared.piece.Context.{Context}
-use Rattle.kn_lex.specs.declared.piece.Context.TheVariants.{LineStart, WithinLine, CommentBody}
+use Rattle.kn_lex.specs.declared.lexeme.Lexeme.TheVariants.{White, Token}
+use Rattle.kn_lex.specs.declared.lexeme.Context.{Context}
+use Rattle.kn_lex.specs.declared.lexeme.Context.TheVariants.{LineStart, WithinLine, CommentBody}
 use Rattle.kn_lex.specs.declared.token.Sort.{Sort}
 use Rattle.kn_lex.specs.declared.token.Sort.TheVariants.{Label, Body as BodySort, Name, Number, Text, Sign}
-use Rattle.kn_lex.proofs.Spelled.{both, same_byte, gap_white, choice, colon_found}
+use Rattle.kn_lex.proofs.ScannedLengths.{both, same_byte, gap_white, choice, colon_found}
 use Rattle.kn_lex.proofs.Scans.{is_blank-cons, take_next}
 use Rattle.kn_lex.proofs.Literals.{literal_found}
 use Rattle.kn_files.specs.Lines.{lines_of, joined, after_byte, after_line, at_line_start, is_of_comment, is_literal}
@@ -324,8 +324,8 @@ pub comment_label : (bytes : List ℕ) → is_comment_label bytes ≡ true → (
 comment_label bytes e = grind (arith, nat_tests, tail_alike)
 
 pub label_piece : (left : List ℕ) → is_comment_label (take 8 left) ≡ true
-    → piece_at LineStart left ≡ Some (Token Label, 8)
-unfolding plain_piece colon_len
+    → lexeme_at LineStart left ≡ Some (Token Label, 8)
+unfolding plain_lexeme colon_len
 label_piece [] e = absurd (false≢true e)
 label_piece (c ∷ cs) e =
     grind (arith, nat_tests, comment_label (take 8 (c ∷ cs)) e, length-take 8 (c ∷ cs), colon_found cs 7)

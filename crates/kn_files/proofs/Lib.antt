@@ -1,6 +1,6 @@
 pub mod Rows
 pub mod Splitting
-pub mod Whole
+pub mod TokenBoundaries
 pub mod Literals
-pub mod Silent
+pub mod LeftOut
 pub mod AtCuts

@@ -15,7 +15,7 @@ use Rattle.std.proofs.lemmas.List.Folds.{list_any-append}
 use Rattle.kn_base.specs.declared.span.Span.{Span}
 use Rattle.kn_lex.specs.Spelling.{is_continuation}
 use Rattle.kn_lex.specs.Cutting.{ends_line, is_comment_label}
-use Rattle.kn_lex.proofs.Spelled.{choice}
+use Rattle.kn_lex.proofs.ScannedLengths.{choice}
 use Rattle.kn_files.specs.Lines.{Line, lines_of, are_lines, joined, placed, is_cut, is_literal, after_byte, after_line}
 use Rattle.kn_files.specs.Pieces.{text_of, span_of, spans_of, IsWithin, IsLineBreak, HasWholeLines}
 use Rattle.kn_files.specs.Paragraphs.{lines_in, ends_at_cut, begins_at_cut, IsParagraph, IsOfParagraph, IsOfLines}
@@ -25,7 +25,7 @@ use Rattle.kn_files.specs.declared.within.Within.TheVariants.{Plain, Body}
 use Rattle.kn_files.proofs.Splitting.{parts_from, parts_whole, is_kept, chosen, spans_apart, joined_lines}
 use Rattle.kn_files.proofs.Splitting.{assertion_some, are_lines_of_file, more_lines, AreWhole, AreWholeBefore}
 use Rattle.kn_files.proofs.Splitting.{none_whole, whole_behind}
-use Rattle.kn_files.proofs.Silent.{either_false}
+use Rattle.kn_files.proofs.LeftOut.{either_false}
 
 ends_push : (xs : List Line) (x : Line) → ends_at_cut (xs ++ x ∷ []) ≡ is_cut x
 ends_push [] x = refl

@@ -4,7 +4,7 @@ ghost use Rattle.std.specs.Prelude.{◌≡◌, ◌⊎◌, ◌||◌, ◌==◌, �
 ghost use Rattle.std.specs.Prelude.{length, take, All, Contains, fold, true, false, not};
 ghost use Rattle.std.specs.List.{list_all};
 ghost use Rattle.kn_lex.specs.Spelling.{is_continuation, Item, is_item, items_bytes, IsLiteral};
-ghost use Rattle.kn_lex.specs.Cutting.{Seen, Cuts, is_comment_label};
+ghost use Rattle.kn_lex.specs.Cutting.{TokenView, Cuts, is_comment_label};
 ghost use Rattle.kn_lex.specs.Faults.{IsFaultless};
 ghost use Rattle.kn_base.specs.declared.span.Span.{Span};
 ghost use Rattle.kn_files.specs.Lines.{Line, lines_of, are_lines, joined, after_byte, after_line, is_literal, is_cut};
@@ -51,7 +51,7 @@ pub fn spans_of_file()
 {}
 
 /// What is left out has neither a token nor a lexical fault, and all else has one.
-#[tactic(auto, using(crate::proofs::Silent::kept))]
+#[tactic(auto, using(crate::proofs::LeftOut::kept))]
 pub fn left_out()
     ensures neither { (text : List ℕ) → is_assertion text ≡ false → Cuts text [] × IsFaultless text }
     ensures either { (text : List ℕ) → is_assertion text ≡ true → Cuts text [] → IsFaultless text → ⊥ }
@@ -59,10 +59,10 @@ pub fn left_out()
 
 /// A text without lexical faults isn't cut between its tokens: as a file it is one assertion where it has
 /// tokens, and none where it has none.
-#[tactic(auto, using(crate::proofs::Whole::no_spans))]
+#[tactic(auto, using(crate::proofs::TokenBoundaries::no_spans))]
 pub fn faultless_text()
     ensures none { (text : List ℕ) → Cuts text [] → IsFaultless text → spans_of text ≡ [] }
-    ensures one { (text : List ℕ) (token : Seen) (tokens : List Seen)
+    ensures one { (text : List ℕ) (token : TokenView) (tokens : List TokenView)
         → Cuts text (token ∷ tokens) → IsFaultless text → length (spans_of text) ≡ 1 }
 {}
 

@@ -92,7 +92,7 @@ fn ends_bare(line: &[u8]) -> bool
         && !matches!(line[len - 2], b' ' | b'\t' | b'\r' | b'\n' | b'\\')
 }
 
-/// What the next line begins in. Whether a comment stands at the end of the line isn't told.
+/// What the next line begins in. Whether a comment stands at the end of the line isn't said.
 #[tactic(auto, using(crate::proofs::Literals::bare_next), unfolding(crate::specs::Lines::after_line))]
 pub(crate) fn after_line(within: Within, line: &[u8]) -> Within
     ensures { settled result ≡ settled (after_line within line.now) }

@@ -9,7 +9,7 @@ use Rattle.kn_history.specs.declared.update.Update.{Update}
 use Rattle.kn_follow.specs.declared.fault.FollowFault.{FollowFault}
 use Rattle.kn_follow.specs.declared.fault.FollowFault.TheVariants.{Line, Gap, Refused, NoMemory}
 use Rattle.kn_follow.specs.declared.reply.TheConstants.{REPLY_BYTES}
-use Rattle.kn_follow.specs.Forms.{ToldUpdate, LogReply, form_text, IsLogText}
+use Rattle.kn_follow.specs.Forms.{ReceivedUpdate, LogReply, form_text, IsLogText}
 use Rattle.kn_follow.specs.Following.{may_be_taken, update_behind, Takes, IsRefusedAt, IsReplyRefused, IsReplyFault}
 use Rattle.kn_follow.specs.Following.{IsApplied, Applies}
 use Rattle.kn_follow.specs.Files.{IsWithinLimit, AppliesFront, IsFrontFault, IsLogFile, IsLogFault, StartsWith}
@@ -24,7 +24,7 @@ use Rattle.kn_follow.proofs.Fronts.{front-read, front-departs, front_applied, fr
 -- Updates that are taken, or of which one is refused.
 
 -- where all are taken, none is refused
-none_refused : (old : List Update) (front : List ToldUpdate) (u : ToldUpdate) (rest : List ToldUpdate)
+none_refused : (old : List Update) (front : List ReceivedUpdate) (u : ReceivedUpdate) (rest : List ReceivedUpdate)
     (new mid : List Update) → Takes old (front ++ u ∷ rest) new → Takes old front mid → may_be_taken mid u ≡ false → ⊥
 none_refused old [] u rest new mid takes front refused =
     let may : may_be_taken mid u ≡ true = ap (λ (l : List Update). may_be_taken l u) front ∙ takes.0 in
@@ -33,14 +33,14 @@ none_refused old (x ∷ front) u rest new mid takes taken refused =
     none_refused (old ++ update_behind old x ∷ []) front u rest new mid takes.1 taken.1 refused
 
 -- one place alone is refused
-one_refused : (old : List Update) (updates front other : List ToldUpdate) (u w : ToldUpdate)
-    (rest more : List ToldUpdate) (new mid : List Update)
+one_refused : (old : List Update) (updates front other : List ReceivedUpdate) (u w : ReceivedUpdate)
+    (rest more : List ReceivedUpdate) (new mid : List Update)
     → updates ≡ front ++ u ∷ rest → updates ≡ other ++ w ∷ more → Takes old front new → Takes old other mid
     → may_be_taken new u ≡ false → may_be_taken mid w ≡ false → new ≡ mid
 one_refused old [] front other u w rest more new mid cut also takes taken not_this not_that =
     absurd (not_none front u rest cut)
   where
-    not_none : (l : List ToldUpdate) (x : ToldUpdate) (m : List ToldUpdate) → [] ≡ l ++ x ∷ m → ⊥
+    not_none : (l : List ReceivedUpdate) (x : ReceivedUpdate) (m : List ReceivedUpdate) → [] ≡ l ++ x ∷ m → ⊥
     not_none [] x m e = cc
     not_none (y ∷ l) x m e = cc
 one_refused old (x ∷ updates) [] [] u w rest more new mid cut also takes taken not_this not_that = takes ∙ sym taken
@@ -58,11 +58,11 @@ one_refused old (x ∷ updates) (y ∷ front) (z ∷ other) u w rest more new mi
     let first : x ≡ y = cc (cut) in
     let second : x ≡ z = cc (also) in
     one_refused (old ++ update_behind old x ∷ []) updates front other u w rest more new mid (cc (cut)) (cc (also))
-    (subst (λ (v : ToldUpdate). Takes (old ++ update_behind old v ∷ []) front new) (sym first) takes.1)
-    (subst (λ (v : ToldUpdate). Takes (old ++ update_behind old v ∷ []) other mid) (sym second) taken.1) not_this
+    (subst (λ (v : ReceivedUpdate). Takes (old ++ update_behind old v ∷ []) front new) (sym first) takes.1)
+    (subst (λ (v : ReceivedUpdate). Takes (old ++ update_behind old v ∷ []) other mid) (sym second) taken.1) not_this
     not_that
 
-one_place : (old : List Update) (updates : List ToldUpdate) (place other : ℕ) (new mid : List Update)
+one_place : (old : List Update) (updates : List ReceivedUpdate) (place other : ℕ) (new mid : List Update)
     → IsRefusedAt old updates place new → IsRefusedAt old updates other mid → place ≡ other
 one_place old updates place other new mid is also =
     let same = one_refused old updates is.front also.front is.refused also.refused is.rest also.rest new mid is.cut
@@ -156,7 +156,7 @@ no_fault held left text rest count new (Refused place) cut short is why some =
     let at = why.refused.fault_is.1 in
     let taken = subst (λ (r : LogReply). Takes held r.updates new) (sym same.1) is.taken.takes in
     none_refused held at.front at.refused at.rest new why.new
-    (subst (λ (l : List ToldUpdate). Takes held l new) at.cut taken) at.takes at.not_this
+    (subst (λ (l : List ReceivedUpdate). Takes held l new) at.cut taken) at.takes at.not_this
 
 -- Endings.
 
@@ -221,7 +221,7 @@ same_end held (text ∷ texts) (another ∷ others) left more new mid end other 
 
 -- Some ending.
 
-takes_or_refuses : (old : List Update) (updates : List ToldUpdate) → ((new : List Update) × Takes old updates new)
+takes_or_refuses : (old : List Update) (updates : List ReceivedUpdate) → ((new : List Update) × Takes old updates new)
     ⊎ ((place : ℕ) × (new : List Update) × IsRefusedAt old updates place new)
 takes_or_refuses old [] = inl (old, refl)
 takes_or_refuses old (u ∷ updates) =
@@ -239,7 +239,7 @@ takes_or_refuses old (u ∷ updates) =
                     refused = at.refused;
                     rest = at.rest;
                     cut =
-                        ap (λ (l : List ToldUpdate). u ∷ l) at.cut;
+                        ap (λ (l : List ReceivedUpdate). u ∷ l) at.cut;
                     takes = (may, at.takes);
                     not_this = at.not_this;
                     number = at.number;

@@ -17,7 +17,7 @@ use Rattle.kn_history.proofs.Histories.{changes-push}
 use Rattle.kn_wire.specs.Items.{item_text}
 use Rattle.kn_reply.specs.Logs.{log_part, log_text, item_of, item_of_change, update_text, change_text, held_after}
 use Rattle.kn_reply.proofs.Logs.{front-of, logs-are_a_beginning}
-use Rattle.kn_follow.specs.Forms.{LogReply, told_update, told_text, form_text, IsTellable, IsLogText}
+use Rattle.kn_follow.specs.Forms.{LogReply, received_update, received_text, form_text, IsTellable, IsLogText}
 use Rattle.kn_follow.specs.Following.{Takes, update_behind, IsApplied, Applies}
 use Rattle.kn_follow.specs.Laws.{TakenInOneWay, IsShort, log_replies, MayAskAt, FollowersFollow}
 use Rattle.kn_follow.proofs.Replies.{one-reading}
@@ -30,38 +30,38 @@ items-text : (changes : List Numbered)
 items-text [] = refl
 items-text (c ∷ changes) = ap (λ l. item_text (item_of_change c.change c.id) ++ l) (items-text changes)
 
-update-same : (u : Update) → update_text u ≡ told_text (told_update u)
+update-same : (u : Update) → update_text u ≡ received_text (received_update u)
 update-same u =
     ap (λ l. codes "UPDATE " ++ decimal u.caller ++ 32 ∷ decimal (length u.changes) ++ 10 ∷ l) (items-text u.changes)
     ∙ ap (λ (n : ℕ). codes "UPDATE " ++ decimal u.caller ++ 32 ∷ decimal n ++ 10
     ∷ flat_map item_text (map (λ (c : Numbered). item_of_change c.change c.id) u.changes))
     (sym (length-map u.changes (λ (c : Numbered). item_of_change c.change c.id)))
 
-updates-same : (part : List Update) → flat_map update_text part ≡ flat_map told_text (map told_update part)
+updates-same : (part : List Update) → flat_map update_text part ≡ flat_map received_text (map received_update part)
 updates-same [] = refl
 updates-same (u ∷ part) = ap (λ l. l ++ flat_map update_text part) (update-same u)
-    ∙ ap (λ l. told_text (told_update u) ++ l) (updates-same part)
+    ∙ ap (λ l. received_text (received_update u) ++ l) (updates-same part)
 
 -- the reply to a client that holds n updates of a history
 abbrev reply_over : ℕ → List Update → LogReply
-reply_over n history = record { from = n; place = length history; updates = map told_update (log_part n history) }
+reply_over n history = record { from = n; place = length history; updates = map received_update (log_part n history) }
 
 text-same : (n : ℕ) (history : List Update) → log_text n history ≡ form_text (reply_over n history)
 text-same n history =
     ap (λ l. codes "LOG " ++ decimal n ++ 32 ∷ decimal (length (log_part n history)) ++ 32 ∷ decimal (length history)
     ++ 10 ∷ l ++ codes "END\n") (updates-same (log_part n history))
     ∙ ap (λ (k : ℕ). codes "LOG " ++ decimal n ++ 32 ∷ decimal k ++ 32 ∷ decimal (length history) ++ 10
-    ∷ flat_map told_text (map told_update (log_part n history)) ++ codes "END\n")
-    (sym (length-map (log_part n history) told_update))
+    ∷ flat_map received_text (map received_update (log_part n history)) ++ codes "END\n")
+    (sym (length-map (log_part n history) received_update))
 
-all-drop : (n : ℕ) (us : List Update) → AllByRecursion IsTellable (map told_update us)
-    → AllByRecursion IsTellable (map told_update (drop n us))
+all-drop : (n : ℕ) (us : List Update) → AllByRecursion IsTellable (map received_update us)
+    → AllByRecursion IsTellable (map received_update (drop n us))
 all-drop zero us all = all
 all-drop (suc n) [] all = tt
 all-drop (suc n) (u ∷ us) all = all-drop n us all.1
 
-all-take : (n : ℕ) (us : List Update) → AllByRecursion IsTellable (map told_update us)
-    → AllByRecursion IsTellable (map told_update (take n us))
+all-take : (n : ℕ) (us : List Update) → AllByRecursion IsTellable (map received_update us)
+    → AllByRecursion IsTellable (map received_update (take n us))
 all-take zero us all = tt
 all-take (suc n) [] all = tt
 all-take (suc n) (u ∷ us) all = (all.0, all-take n us all.1)
@@ -70,7 +70,7 @@ is-reply : (n : ℕ) (history : List Update) → n ≤ length history → IsShor
     → IsLogText (log_text n history) (reply_over n history)
 is-reply n history within short =
     let few = short.count in
-    let size = length-map (log_part n history) told_update in
+    let size = length-map (log_part n history) received_update in
     let taken = length-take 16 (drop n history) in
     let left = length-drop n history in
     record {
@@ -104,13 +104,13 @@ items-same (c ∷ changes) =
     ∙ ap (λ l. item_in c.change c.id ∷ l) (items-same changes)
 
 behind-same : (past : List Update) (u : Update) → update_may_follow (all_changes past) u ≡ true
-    → update_behind past (told_update u) ≡ u
+    → update_behind past (received_update u) ≡ u
 behind-same past u follows =
     ap (batch_by u.caller (additions (all_changes past) + 1)) (items-same u.changes)
     ∙ sym (items-determine (all_changes past) u follows)
 
 takes-part : (past part : List Update) → updates_may_follow (all_changes past) part ≡ true
-    → Takes past (map told_update part) (past ++ part)
+    → Takes past (map received_update part) (past ++ part)
 takes-part past [] follow = append-nil past
 takes-part past (u ∷ part) follow =
     let parts = and_parts (update_may_follow (all_changes past) u)
@@ -119,8 +119,8 @@ takes-part past (u ∷ part) follow =
     let more = takes-part (past ++ u ∷ []) part
     (subst (λ l. updates_may_follow l part ≡ true) (sym (changes-push past u)) parts.1) in (
       subst (λ v. update_may_follow (all_changes past) v ≡ true) (sym same) parts.0,
-      subst (λ v. Takes (past ++ v ∷ []) (map told_update part) (past ++ u ∷ part)) (sym same)
-          (subst (Takes (past ++ u ∷ []) (map told_update part)) (append_assoc past (u ∷ []) part) more),
+      subst (λ v. Takes (past ++ v ∷ []) (map received_update part) (past ++ u ∷ part)) (sym same)
+          (subst (Takes (past ++ u ∷ []) (map received_update part)) (append_assoc past (u ∷ []) part) more),
     )
 
 follow-front : (past : List Numbered) (front back : List Update) → updates_may_follow past (front ++ back) ≡ true
@@ -168,7 +168,7 @@ next-part history held rest place whole valid =
 one-applied : (history held rest : List Update) (place : ℕ) → held ++ rest ≡ history → is_valid_history history ≡ true
     → IsShort history → length held ≤ place → place ≤ length history
     → IsApplied held (log_text (length held) (take place history))
-    (length (map told_update (log_part (length held) (take place history))))
+    (length (map received_update (log_part (length held) (take place history))))
     (held ++ log_part (length held) (take place history))
 one-applied history held rest place whole valid short from to =
     let next = next-part history held rest place whole valid in
@@ -190,7 +190,7 @@ all-applied history held rest [] whole valid short may = refl
 all-applied history held rest (place ∷ places) whole valid short may =
     let part = log_part (length held) (take place history) in
     let next = next-part history held rest place whole valid in (
-      length (map told_update part),
+      length (map received_update part),
       held ++ part,
       one-applied history held rest place whole valid short may.0 may.1,
       all-applied history (held ++ part) next.later places next.whole valid short may.2,

@@ -1,7 +1,7 @@
 -- What calls on a link take and write, one after the other.
 use Rattle.std.proofs.Common.{◌≡◌, ℕ, ◌≤◌, true, false, List, [], ◌++◌, take, sym, ap, ◌∙◌, arith}
 use Rattle.kn_outside.specs.Seen.{LinkSeen}
-use Rattle.kn_outside.specs.Told.{more}
+use Rattle.kn_outside.specs.SpecifiedBytes.{more}
 use Rattle.kn_outside.specs.Printing.{Prints}
 use Rattle.kn_outside.specs.Reading.{Reads}
 use Rattle.kn_outside.proofs.Parts.{more_more, more_nothing, before_nothing, before_parts}

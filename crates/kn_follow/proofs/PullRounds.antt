@@ -6,7 +6,7 @@ use Rattle.kn_outside.specs.Seen.{LinkSeen}
 use Rattle.kn_history.specs.declared.update.Update.{Update}
 use Rattle.kn_follow.specs.declared.pull_fault.PullFault.{PullFault}
 use Rattle.kn_follow.specs.declared.request.Request.TheVariants.{Admin, Log, Bye}
-use Rattle.kn_follow.specs.Forms.{ToldUpdate}
+use Rattle.kn_follow.specs.Forms.{ReceivedUpdate}
 use Rattle.kn_follow.specs.Following.{Takes, update_behind, IsApplied}
 use Rattle.kn_follow.specs.Answers.{IsAnswer, admin_line, log_line, bye_line, ok_line}
 use Rattle.kn_follow.specs.Pulling.{Gains, Rounds, IsLastReply, IsServed, IsPulled, IsPullFault}
@@ -16,7 +16,7 @@ use Rattle.kn_follow.proofs.PullSteps.{stops-later}
 
 -- Replies that are applied.
 
-takes-length : (old : List Update) (updates : List ToldUpdate) (new : List Update) → Takes old updates new
+takes-length : (old : List Update) (updates : List ReceivedUpdate) (new : List Update) → Takes old updates new
     → length new ≡ length old + length updates
 takes-length old [] new takes = let same = ap length takes in omega (arith, same)
 takes-length old (u ∷ updates) new takes =
@@ -31,7 +31,7 @@ applied-length old text count new a =
     let number = a.taken.number in
     omega (arith, size, number)
 
-none-taken : (old : List Update) (updates : List ToldUpdate) (new : List Update) → 0 ≡ length updates
+none-taken : (old : List Update) (updates : List ReceivedUpdate) (new : List Update) → 0 ≡ length updates
     → Takes old updates new → new ≡ old
 none-taken old [] new none takes = takes
 none-taken old (u ∷ updates) new none takes = absurd (omega (arith, none))

@@ -12,7 +12,8 @@ use Rattle.kn_wire.specs.Items.{BatchItem, AddText, DropId, item_text, IsShortIt
 use Rattle.kn_follow.specs.declared.fault.FollowFault.{FollowFault}
 use Rattle.kn_follow.specs.declared.fault.FollowFault.TheVariants.{Line}
 use Rattle.kn_follow.specs.Following.{IsReadFault}
-use Rattle.kn_follow.specs.Forms.{ToldUpdate, LogReply, told_text, form_text, IsTellable, HasForm, IsLogText, IsFront}
+use Rattle.kn_follow.specs.Forms.{ReceivedUpdate, LogReply, received_text, form_text, IsTellable, HasForm, IsLogText}
+use Rattle.kn_follow.specs.Forms.{IsFront}
 use Rattle.kn_follow.specs.Forms.{DepartsAt}
 use Rattle.kn_follow.specs.Laws.{SomeReading, OneReading}
 use Rattle.kn_follow.specs.Reading.{Read, both, times, literal_at, bytes_at, number_at, addition_at, removal_at}
@@ -252,13 +253,14 @@ FitsUpdate p = Unit {0} × (IsFrom 0 999999999 p.1.0 × (IsFrom 1 256 p.1.1.0 ×
 abbrev update-spelled : UpdateRead → List ℕ
 update-spelled p = codes "UPDATE " ++ (ended 32 p.1.0 ++ (ended 10 p.1.1.0 ++ flat_map item_text p.1.1.1))
 
-abbrev update_read : UpdateRead → ToldUpdate
+abbrev update_read : UpdateRead → ReceivedUpdate
 update_read p = record { caller = p.1.0; items = p.1.1.1 }
 
-update-stands : Stands FitsUpdate update-spelled IsTellable told_text update_read
+update-stands : Stands FitsUpdate update-spelled IsTellable received_text update_read
 update-stands = record { fits = λ p fits. by p fits; each = λ u fits. each u fits }
   where
-    by : (p : UpdateRead) → FitsUpdate p → IsTellable (update_read p) × (told_text (update_read p) ≡ update-spelled p)
+    by : (p : UpdateRead) → FitsUpdate p → IsTellable (update_read p)
+        × (received_text (update_read p) ≡ update-spelled p)
     by p fits =
         let high = fits.1.0.most_is in
         let some = fits.1.1.0.least_is in
@@ -274,7 +276,7 @@ update-stands = record { fits = λ p fits. by p fits; each = λ u fits. each u f
               ∙ ap (λ n. codes "UPDATE " ++ (ended 32 p.1.0 ++ (ended 10 n ++ flat_map item_text p.1.1.1))) size,
         )
 
-    each : (u : ToldUpdate) → IsTellable u → (p : UpdateRead) × FitsUpdate p × (update_read p ≡ u)
+    each : (u : ReceivedUpdate) → IsTellable u → (p : UpdateRead) × FitsUpdate p × (update_read p ≡ u)
     each u fits =
         let high = fits.caller in (
           (tt, (u.caller, (length u.items, u.items))),
@@ -291,13 +293,13 @@ update-stands = record { fits = λ p fits. by p fits; each = λ u fits. each u f
 one-update : (n : ℕ) → (items : List BatchItem) × AreTimes IsShortItem n items
 one-update n = some-times IsShortItem (DropId 0) (omega arith) n
 
-update-reader : IsReader IsTellable told_text update_at
+update-reader : IsReader IsTellable received_text update_at
 unfolding update_at
 update-reader =
     mapped-reader FitsUpdate update-spelled
     (both (literal_at (codes "UPDATE "))
     (λ _. both (number_at 0 999999999 32) (λ _. both (number_at 1 256 10) (λ n. times item_at n)))) IsTellable
-    told_text update_read
+    received_text update_read
     (both-reader Always (λ _. codes "UPDATE ") (literal_at (codes "UPDATE ")) (λ _ p. IsFrom 0 999999999 p.0
     × (IsFrom 1 256 p.1.0 × AreTimes IsShortItem p.1.0 p.1.1))
     (λ _ p. ended 32 p.0 ++ (ended 10 p.1.0 ++ flat_map item_text p.1.1))
@@ -323,7 +325,7 @@ reply-pieces : (from count place updates : List ℕ) → codes "LOG " ++ from ++
 reply-pieces from count place updates = simp append_assoc
 
 abbrev ReplyRead : Type 0
-ReplyRead = Unit {0} × (ℕ × (ℕ × (ℕ × (List ToldUpdate × Unit {0}))))
+ReplyRead = Unit {0} × (ℕ × (ℕ × (ℕ × (List ReceivedUpdate × Unit {0}))))
 
 abbrev FitsReply : ReplyRead → Type 0
 FitsReply p =
@@ -335,7 +337,7 @@ FitsReply p =
 abbrev reply-spelled : ReplyRead → List ℕ
 reply-spelled p =
     codes "LOG " ++ (ended 32 p.1.0
-    ++ (ended 32 p.1.1.0 ++ (ended 10 p.1.1.1.0 ++ (flat_map told_text p.1.1.1.1.0 ++ codes "END\n"))))
+    ++ (ended 32 p.1.1.0 ++ (ended 10 p.1.1.1.0 ++ (flat_map received_text p.1.1.1.1.0 ++ codes "END\n"))))
 
 abbrev reply_read : ReplyRead → LogReply
 reply_read p = record { from = p.1.0; place = p.1.1.1.0; updates = p.1.1.1.1.0 }
@@ -362,7 +364,7 @@ place-bounds from count small few =
 count-bounds : (from : ℕ) → AreBounds 0 (most_updates from) 32
 count-bounds from = record { order = omega arith; small = omega arith; plain = refl }
 
-fits-form : (from count place : ℕ) (updates : List ToldUpdate) → IsFrom 0 999999999 from
+fits-form : (from count place : ℕ) (updates : List ReceivedUpdate) → IsFrom 0 999999999 from
     → IsFrom 0 (most_updates from) count → IsFrom (from + count) (greatest_place from count) place
     → AreTimes IsTellable count updates → HasForm (record { from = from; place = place; updates = updates })
 fits-form from count place updates f c p us =
@@ -419,10 +421,10 @@ reply-stands = record { fits = λ p fits. by p fits; each = λ reply form. each 
         let us = fits.1.1.1.1.0 in (
           fits-form p.1.0 p.1.1.0 p.1.1.1.0 p.1.1.1.1.0 fits.1.0 fits.1.1.0 fits.1.1.1.0 us,
           reply-pieces (decimal p.1.0) (decimal (length p.1.1.1.1.0)) (decimal p.1.1.1.0)
-              (flat_map told_text p.1.1.1.1.0)
+              (flat_map received_text p.1.1.1.1.0)
               ∙ ap (λ n. codes "LOG "
               ++ (ended 32 p.1.0
-              ++ (ended 32 n ++ (ended 10 p.1.1.1.0 ++ (flat_map told_text p.1.1.1.1.0 ++ codes "END\n"))))) us.0,
+              ++ (ended 32 n ++ (ended 10 p.1.1.1.0 ++ (flat_map received_text p.1.1.1.1.0 ++ codes "END\n"))))) us.0,
         )
 
     each : (reply : LogReply) → HasForm reply → (p : ReplyRead) × FitsReply p × (reply_read p ≡ reply)
@@ -444,13 +446,13 @@ reply-stands = record { fits = λ p fits. by p fits; each = λ reply form. each 
           refl,
         )
 
-abbrev some-update : ToldUpdate
+abbrev some-update : ReceivedUpdate
 some-update = record { caller = 0; items = DropId 0 ∷ [] }
 
 some-tellable : IsTellable some-update
 some-tellable = record { caller = omega arith; some = omega arith; few = omega arith; items = (omega arith, tt) }
 
-some-updates : (n : ℕ) → (updates : List ToldUpdate) × AreTimes IsTellable n updates
+some-updates : (n : ℕ) → (updates : List ReceivedUpdate) × AreTimes IsTellable n updates
 some-updates n = some-times IsTellable some-update some-tellable n
 
 first-place : (from count : ℕ) → from ≤ 999999999 → count ≤ most_updates from
@@ -472,7 +474,8 @@ reply-reader =
     (λ _ p. IsFrom 0 999999999 p.0
     × (IsFrom 0 (most_updates p.0) p.1.0
     × (IsFrom (p.0 + p.1.0) (greatest_place p.0 p.1.0) p.1.1.0 × (AreTimes IsTellable p.1.0 p.1.1.1.0 × Unit {0}))))
-    (λ _ p. ended 32 p.0 ++ (ended 32 p.1.0 ++ (ended 10 p.1.1.0 ++ (flat_map told_text p.1.1.1.0 ++ codes "END\n"))))
+    (λ _ p. ended 32 p.0
+    ++ (ended 32 p.1.0 ++ (ended 10 p.1.1.0 ++ (flat_map received_text p.1.1.1.0 ++ codes "END\n"))))
     (λ _. both (number_at 0 999999999 32)
     (λ from. both (number_at 0 (most_updates from) 32)
     (λ count. both (number_at (from + count) (greatest_place from count) 10)
@@ -481,25 +484,25 @@ reply-reader =
     (λ _ _. both-reader (IsFrom 0 999999999) (ended 32) (number_at 0 999999999 32)
     (λ from p. IsFrom 0 (most_updates from) p.0
     × (IsFrom (from + p.0) (greatest_place from p.0) p.1.0 × (AreTimes IsTellable p.0 p.1.1.0 × Unit {0})))
-    (λ _ p. ended 32 p.0 ++ (ended 10 p.1.0 ++ (flat_map told_text p.1.1.0 ++ codes "END\n")))
+    (λ _ p. ended 32 p.0 ++ (ended 10 p.1.0 ++ (flat_map received_text p.1.1.0 ++ codes "END\n")))
     (λ from. both (number_at 0 (most_updates from) 32)
     (λ count. both (number_at (from + count) (greatest_place from count) 10)
     (λ _. both (times update_at count) (λ _. literal_at (codes "END\n")))))
     (nine-reader 32 refl)
     (λ from f. both-reader (IsFrom 0 (most_updates from)) (ended 32) (number_at 0 (most_updates from) 32)
     (λ count p. IsFrom (from + count) (greatest_place from count) p.0 × (AreTimes IsTellable count p.1.0 × Unit {0}))
-    (λ _ p. ended 10 p.0 ++ (flat_map told_text p.1.0 ++ codes "END\n"))
+    (λ _ p. ended 10 p.0 ++ (flat_map received_text p.1.0 ++ codes "END\n"))
     (λ count. both (number_at (from + count) (greatest_place from count) 10)
     (λ _. both (times update_at count) (λ _. literal_at (codes "END\n"))))
     (number-reader 0 (most_updates from) 32 (count-bounds from))
     (λ count c. both-reader (IsFrom (from + count) (greatest_place from count)) (ended 10)
     (number_at (from + count) (greatest_place from count) 10)
-    (λ _ p. AreTimes IsTellable count p.0 × Unit {0}) (λ _ p. flat_map told_text p.0 ++ codes "END\n")
+    (λ _ p. AreTimes IsTellable count p.0 × Unit {0}) (λ _ p. flat_map received_text p.0 ++ codes "END\n")
     (λ _. both (times update_at count) (λ _. literal_at (codes "END\n")))
     (number-reader (from + count) (greatest_place from count) 10 (place-bounds from count f.most_is c.most_is))
-    (λ _ _. both-reader (AreTimes IsTellable count) (flat_map told_text) (times update_at count) (λ _. Always)
+    (λ _ _. both-reader (AreTimes IsTellable count) (flat_map received_text) (times update_at count) (λ _. Always)
     (λ _ _. codes "END\n") (λ _. literal_at (codes "END\n"))
-    (times-reader IsTellable told_text update_at some-update some-tellable update-reader count)
+    (times-reader IsTellable received_text update_at some-update some-tellable update-reader count)
     (λ _ _. literal-reader (codes "END\n")) (λ _ _. (tt, tt)))
     (λ _ _. let us = some-updates count in ((us.0, tt), (us.1, tt))))
     (λ count c. let us = some-updates count in

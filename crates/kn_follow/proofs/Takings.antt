@@ -19,13 +19,13 @@ use Rattle.kn_follow.specs.declared.fault.FollowFault.TheVariants.{Line, Gap, Re
 use Rattle.kn_follow.specs.declared.items.ItemFault.{ItemFault}
 use Rattle.kn_follow.specs.declared.items.ItemFault.TheVariants as F
 use Rattle.kn_follow.specs.declared.reply.Received.{Received}
-use Rattle.kn_follow.specs.Forms.{ToldUpdate, LogReply, IsTellable, IsLogText}
+use Rattle.kn_follow.specs.Forms.{ReceivedUpdate, LogReply, IsTellable, IsLogText}
 use Rattle.kn_follow.specs.Following.{Takes, may_be_taken, update_behind, IsUpdateFault, IsTakingFault, IsReplyFault}
 use Rattle.kn_follow.specs.Following.{IsFollowFault, IsReadFault}
 use Rattle.kn_follow.specs.InCode.{asked_item, asked_items, IsUnreadable, AreUnreadable, update_of, updates_of}
 
 -- one more is taken behind these
-pub takes_more : (old : List Update) (front : List ToldUpdate) (mid : List Update) (u : ToldUpdate)
+pub takes_more : (old : List Update) (front : List ReceivedUpdate) (mid : List Update) (u : ReceivedUpdate)
     → Takes old front mid → may_be_taken mid u ≡ true → Takes old (front ++ u ∷ []) (mid ++ update_behind mid u ∷ [])
 takes_more old [] mid u takes may =
     (ap (λ l. may_be_taken l u) (sym takes) ∙ may, ap (λ l. l ++ update_behind l u ∷ []) takes)
@@ -33,7 +33,7 @@ takes_more old (x ∷ front) mid u takes may =
     (takes.0, takes_more (old ++ update_behind old x ∷ []) front mid u takes.1 may)
 
 -- they are taken in one way
-pub one_taking : (old : List Update) (updates : List ToldUpdate) (new other : List Update) → Takes old updates new
+pub one_taking : (old : List Update) (updates : List ReceivedUpdate) (new other : List Update) → Takes old updates new
     → Takes old updates other → new ≡ other
 one_taking old [] new other takes also = takes ∙ sym also
 one_taking old (u ∷ updates) new other takes also =
@@ -42,14 +42,15 @@ one_taking old (u ∷ updates) new other takes also =
 -- Which updates may not be taken.
 
 -- what the store is asked for by an update
-abbrev asked : ToldUpdate → List Item
+abbrev asked : ReceivedUpdate → List Item
 asked u = map item_of u.items
 
-may-follow : (past : List Update) (u : ToldUpdate) → may_be_taken past u ≡ items_may_follow (all_changes past) (asked u)
+may-follow : (past : List Update) (u : ReceivedUpdate)
+    → may_be_taken past u ≡ items_may_follow (all_changes past) (asked u)
 may-follow past u = batch-follows u.caller (all_changes past) (asked u)
 
 -- a text of it has no reading
-pub unreadable_text : (past : List Update) (u : ToldUpdate) → list_all item_reads (asked u) ≡ false
+pub unreadable_text : (past : List Update) (u : ReceivedUpdate) → list_all item_reads (asked u) ≡ false
     → may_be_taken past u ≡ false
 unreadable_text past u e =
     let items = asked u in
@@ -59,7 +60,7 @@ unreadable_text past u e =
     (and_right (is_none (refusal_of_items (all_changes past) items)) (list_all item_reads items) e)
 
 -- a change of it is refused
-pub refused_change : (past : List Update) (u : ToldUpdate) (found : ℕ × StoreFault)
+pub refused_change : (past : List Update) (u : ReceivedUpdate) (found : ℕ × StoreFault)
     → refusal_of_items (all_changes past) (asked u) ≡ Some found → may_be_taken past u ≡ false
 refused_change past u found e =
     let items = asked u in
@@ -142,7 +143,7 @@ taken_here old mid new seen us i r same here within front may taken =
     let all : updates_of (take (i + 1) us) ≡ updates_of (take i us) ++ update_of r ∷ [] =
     map_more update_of us i r within
     ∙ ap (λ (v : Received). updates_of (take i us) ++ update_of v ∷ []) (yielded seen us i r same here) in
-    subst (λ (l : List ToldUpdate). Takes old l new) (sym all)
+    subst (λ (l : List ReceivedUpdate). Takes old l new) (sym all)
     (subst (λ (l : List Update). Takes old (updates_of (take i us) ++ update_of r ∷ []) l) (sym taken) more)
 
 pub refused_here : (old mid new : List Update) (seen us : List Received) (i : ℕ) (r : Received) (fault : FollowFault)

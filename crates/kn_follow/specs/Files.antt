@@ -69,7 +69,7 @@ pub record IsLogFault (text : List ℕ) (fault : FollowFault) : Type 0 where
   pub first : AppliesFirst text left held
   pub why : IsFrontFault held left fault
 
--- What the reader of a file in code is told: a reply stands at the front of these bytes, and these are behind it.
+-- What the reader of a file in code finds: a reply stands at the front of these bytes, and these are behind it.
 pub record StartsWith (left : List ℕ) (reply : LogReply) (rest : List ℕ) : Type 0 where
   pub text : List ℕ
   pub cut : left ≡ text ++ rest

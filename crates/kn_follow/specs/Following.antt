@@ -6,47 +6,48 @@ use Rattle.kn_history.specs.Batches.{batch_by}
 use Rattle.kn_reply.specs.Logs.{item_of}
 use Rattle.kn_follow.specs.declared.fault.FollowFault.{FollowFault}
 use Rattle.kn_follow.specs.declared.fault.FollowFault.TheVariants.{Line, Gap, Refused, NoMemory}
-use Rattle.kn_follow.specs.Forms.{ToldUpdate, LogReply, IsLogText, DepartsAt}
+use Rattle.kn_follow.specs.Forms.{ReceivedUpdate, LogReply, IsLogText, DepartsAt}
 
--- the update that is told behind a history: the ids of its additions go on from there
-abbrev pub update_behind : List Update → ToldUpdate → Update
+-- the update that is received behind a history: the ids of its additions go on from there
+abbrev pub update_behind : List Update → ReceivedUpdate → Update
 update_behind past u = batch_by u.caller (next_id past) (map item_of u.items)
 
 -- it may follow the history: each of its texts has a reading, and none of its changes is refused
-abbrev pub may_be_taken : List Update → ToldUpdate → Bool
+abbrev pub may_be_taken : List Update → ReceivedUpdate → Bool
 may_be_taken past u = update_may_follow (all_changes past) (update_behind past u)
 
 -- these are taken behind a history one after the other, where each may follow those before it, and make this history
-abbrev pub Takes : List Update → List ToldUpdate → List Update → Type 0
+abbrev pub Takes : List Update → List ReceivedUpdate → List Update → Type 0
 Takes past [] new = new ≡ past
 Takes past (u ∷ updates) new = (may_be_taken past u ≡ true) × Takes (past ++ update_behind past u ∷ []) updates new
 
 -- one update of these is refused, the one of this place in the history, counted from 1; those in front of it were taken
-pub record IsRefusedAt (old : List Update) (updates : List ToldUpdate) (place : ℕ) (new : List Update) : Type 0 where
-  pub front : List ToldUpdate
-  pub refused : ToldUpdate
-  pub rest : List ToldUpdate
+pub record IsRefusedAt (old : List Update) (updates : List ReceivedUpdate) (place : ℕ) (new : List Update) :
+    Type 0 where
+  pub front : List ReceivedUpdate
+  pub refused : ReceivedUpdate
+  pub rest : List ReceivedUpdate
   pub cut : updates ≡ front ++ refused ∷ rest
   pub takes : Takes old front new
   pub not_this : may_be_taken new refused ≡ false
   pub number : place ≡ length new + 1
 
 -- some first ones of these were taken
-pub record TakesSome (old : List Update) (updates : List ToldUpdate) (new : List Update) : Type 0 where
-  pub front : List ToldUpdate
-  pub rest : List ToldUpdate
+pub record TakesSome (old : List Update) (updates : List ReceivedUpdate) (new : List Update) : Type 0 where
+  pub front : List ReceivedUpdate
+  pub rest : List ReceivedUpdate
   pub cut : updates ≡ front ++ rest
   pub takes : Takes old front new
 
 -- why these updates aren't all taken, and what the replica then is
-abbrev pub IsTakingFault : List Update → List ToldUpdate → FollowFault → List Update → Type 0
+abbrev pub IsTakingFault : List Update → List ReceivedUpdate → FollowFault → List Update → Type 0
 IsTakingFault old updates (Line at) new = ⊥
 IsTakingFault old updates (Gap from have) new = ⊥
 IsTakingFault old updates (Refused place) new = IsRefusedAt old updates place new
 IsTakingFault old updates NoMemory new = TakesSome old updates new
 
 -- why an update isn't taken; the replica stays as it is
-abbrev pub IsUpdateFault : List Update → ToldUpdate → FollowFault → Type 0
+abbrev pub IsUpdateFault : List Update → ReceivedUpdate → FollowFault → Type 0
 IsUpdateFault old u (Line at) = ⊥
 IsUpdateFault old u (Gap from have) = ⊥
 IsUpdateFault old u (Refused place) = (may_be_taken old u ≡ false) × (place ≡ length old + 1)
@@ -61,10 +62,8 @@ pub record TakesReply (old : List Update) (reply : LogReply) (count : ℕ) (new 
 -- why a reply that is of the form isn't applied, and what the replica then is
 abbrev pub IsReplyFault : List Update → LogReply → FollowFault → List Update → Type 0
 IsReplyFault old reply (Line at) new = ⊥
-IsReplyFault old reply (Gap from have) new =
-    (from ≡ reply.from) × (have ≡ length old) × (from ≢ have) × (new ≡ old)
-IsReplyFault old reply (Refused place) new =
-    (reply.from ≡ length old) × IsRefusedAt old reply.updates place new
+IsReplyFault old reply (Gap from have) new = (from ≡ reply.from) × (have ≡ length old) × (from ≢ have) × (new ≡ old)
+IsReplyFault old reply (Refused place) new = (reply.from ≡ length old) × IsRefusedAt old reply.updates place new
 IsReplyFault old reply NoMemory new = (reply.from ≡ length old) × TakesSome old reply.updates new
 
 -- the text is a reply, and that was applied

@@ -8,29 +8,30 @@ use Rattle.kn_wire.specs.Items.{BatchItem, item_text, IsShortItem}
 use Rattle.kn_reply.specs.Logs.{item_of_change}
 
 -- an update as a reply tells it: its caller, and its changes as items, so without the ids of additions
-pub record ToldUpdate : Type 0 where
+pub record ReceivedUpdate : Type 0 where
   pub caller : ℕ
   pub items : List BatchItem
 
-abbrev pub told_update : Update → ToldUpdate
-told_update u = record { caller = u.caller; items = map (λ c. item_of_change c.change c.id) u.changes }
+abbrev pub received_update : Update → ReceivedUpdate
+received_update u = record { caller = u.caller; items = map (λ c. item_of_change c.change c.id) u.changes }
 
-abbrev pub told_text : ToldUpdate → List ℕ
-told_text u = codes "UPDATE " ++ decimal u.caller ++ 32 ∷ decimal (length u.items) ++ 10 ∷ flat_map item_text u.items
+abbrev pub received_text : ReceivedUpdate → List ℕ
+received_text u = codes "UPDATE " ++ decimal u.caller ++ 32 ∷ decimal (length u.items) ++ 10
+    ∷ flat_map item_text u.items
 
 -- a reply to a client that holds the first `from` updates, where there are `place` of them: it hands on these
 pub record LogReply : Type 0 where
   pub from : ℕ
   pub place : ℕ
-  pub updates : List ToldUpdate
+  pub updates : List ReceivedUpdate
 
 abbrev pub form_text : LogReply → List ℕ
 form_text reply =
     codes "LOG " ++ decimal reply.from ++ 32 ∷ decimal (length reply.updates) ++ 32 ∷ decimal reply.place
-    ++ 10 ∷ flat_map told_text reply.updates ++ codes "END\n"
+    ++ 10 ∷ flat_map received_text reply.updates ++ codes "END\n"
 
 -- an update has from 1 to 256 changes, and its numbers have at most nine digits
-pub record IsTellable (u : ToldUpdate) : Type 0 where
+pub record IsTellable (u : ReceivedUpdate) : Type 0 where
   pub caller : u.caller < 1000000000
   pub some : 1 ≤ length u.items
   pub few : length u.items ≤ CHANGES

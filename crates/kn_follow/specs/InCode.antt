@@ -12,12 +12,12 @@ use Rattle.kn_follow.specs.declared.reply.Received.{Received}
 use Rattle.kn_follow.specs.declared.reply.Reply.{Reply}
 use Rattle.kn_follow.specs.declared.reply.ReadStop.{ReadStop}
 use Rattle.kn_follow.specs.declared.reply.ReadStop.TheVariants.{Departs, NoMemory}
-use Rattle.kn_follow.specs.Forms.{ToldUpdate, LogReply}
+use Rattle.kn_follow.specs.Forms.{ReceivedUpdate, LogReply}
 
-abbrev pub update_of : Received → ToldUpdate
+abbrev pub update_of : Received → ReceivedUpdate
 update_of u = record { caller = u.caller; items = map I.item_of u.items }
 
-abbrev pub updates_of : List Received → List ToldUpdate
+abbrev pub updates_of : List Received → List ReceivedUpdate
 updates_of updates = map update_of updates
 
 abbrev pub reply_of : Reply → LogReply

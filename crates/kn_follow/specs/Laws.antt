@@ -7,7 +7,7 @@ use Rattle.kn_reply.specs.Logs.{log_part, log_text, held_after}
 use Rattle.kn_follow.specs.declared.fault.FollowFault.{FollowFault}
 use Rattle.kn_follow.specs.declared.fault.FollowFault.TheVariants.{NoMemory}
 use Rattle.kn_follow.specs.Files.{IsLogFile, IsLogFault}
-use Rattle.kn_follow.specs.Forms.{LogReply, IsTellable, IsLogText, DepartsAt, told_update}
+use Rattle.kn_follow.specs.Forms.{LogReply, IsTellable, IsLogText, DepartsAt, received_update}
 use Rattle.kn_follow.specs.Following.{IsApplied, Applies}
 
 -- a text is a reply, or it departs from the form at some byte
@@ -41,7 +41,7 @@ TakenInOneWay = (text : List ℕ) (old new other : List Update) (count number : 
 -- a history whose numbers have at most nine digits
 pub record IsShort (history : List Update) : Type 0 where
   pub count : length history < 1000000000
-  pub each : AllByRecursion IsTellable (map told_update history)
+  pub each : AllByRecursion IsTellable (map received_update history)
 
 -- replies to LOG over a history: each is to a client that holds so many updates, and has the place of some version with
 -- them

@@ -1,7 +1,7 @@
 -- A pull: what it asks, what is answered, what that makes of the replica, and why it ends (keynoted's own).
 use Rattle.std.specs.Prelude.{ℕ, ◌≡◌, ◌≢◌, ◌⊎◌, ◌+◌, ◌<◌, ◌≤◌, List, [], ◌∷◌, ◌++◌, length, take, IfSome}
 use Rattle.kn_outside.specs.Seen.{LinkSeen}
-use Rattle.kn_outside.specs.Told.{more, before}
+use Rattle.kn_outside.specs.SpecifiedBytes.{more, before}
 use Rattle.kn_outside.specs.Faults.{Rose}
 use Rattle.kn_history.specs.declared.update.Update.{Update}
 use Rattle.kn_follow.specs.declared.fault.FollowFault.{FollowFault}
@@ -82,8 +82,7 @@ IsUnanswered request line written held l l' (Ended n) =
 IsUnanswered request line written held l l' (Long n) =
     (written ≡ line) × Awaits request held × (REPLY_BYTES < length held) × (n ≡ REPLY_BYTES + 1)
     × (l'.faults ≡ l.faults)
-IsUnanswered request line written held l l' NoMemory =
-    ((written ≡ []) ⊎ (written ≡ line)) × (l'.faults ≡ l.faults)
+IsUnanswered request line written held l l' NoMemory = ((written ≡ []) ⊎ (written ≡ line)) × (l'.faults ≡ l.faults)
 IsUnanswered request line written held l l' (Denied code) = ⊥
 IsUnanswered request line written held l l' (Follow fault) = ⊥
 IsUnanswered request line written held l l' Unserved = ⊥

@@ -6,7 +6,7 @@ use Rattle.kn_base.specs.Decimal.{is_digit}
 use Rattle.kn_base.specs.declared.limits.TheConstants.{CHANGES, LOG_UPDATES}
 use Rattle.kn_wire.specs.Items.{BatchItem, AddText, DropId}
 use Rattle.kn_follow.specs.declared.reply.TheConstants.{NINE_DIGITS}
-use Rattle.kn_follow.specs.Forms.{ToldUpdate, LogReply}
+use Rattle.kn_follow.specs.Forms.{ReceivedUpdate, LogReply}
 
 abbrev pub Read : Type 0 → Type 0
 Read A = Result (A × List ℕ) (List ℕ)
@@ -87,8 +87,7 @@ addition_at text =
     text
 
 unfoldable pub removal_at : List ℕ → Read BatchItem
-removal_at text =
-    mapped (λ p. DropId p.1) (both (literal_at (codes "DROP a")) (λ _. number_at 0 NINE_DIGITS 10)) text
+removal_at text = mapped (λ p. DropId p.1) (both (literal_at (codes "DROP a")) (λ _. number_at 0 NINE_DIGITS 10)) text
 
 -- an item, by its first byte: `A` or `D`
 unfoldable pub item_at : List ℕ → Read BatchItem
@@ -96,7 +95,7 @@ item_at [] = Err []
 item_at (b ∷ text) =
     if b == 65 then addition_at (b ∷ text) else if b == 68 then removal_at (b ∷ text) else Err (b ∷ text)
 
-unfoldable pub update_at : List ℕ → Read ToldUpdate
+unfoldable pub update_at : List ℕ → Read ReceivedUpdate
 update_at text =
     mapped (λ p. record { caller = p.1.0; items = p.1.1.1 })
     (both (literal_at (codes "UPDATE "))

@@ -11,7 +11,7 @@ use kn_outside::{Failed, Link, write_all};
 use std::alloc::Global;
 
 /// The most bytes of a piece.
-const PIECE_BYTES: usize = 4_096;
+const CHUNK_BYTES: usize = 4_096;
 
 /// The number of bytes at which an answer is too long.
 const TOO_MANY: u32 = REPLY_BYTES as u32 + 1;
@@ -56,7 +56,7 @@ fn wait<L: Link>(
         if held.len() > REPLY_BYTES {
             return Err(PullFault::Long { bytes: TOO_MANY });
         }
-        match read_piece(link, held) {
+        match read_chunk(link, held) {
             Ok(0) => {
                 return Err(PullFault::Ended {
                     held: held.len() as u32,
@@ -69,11 +69,11 @@ fn wait<L: Link>(
 }
 
 /// Reads the next bytes behind those held, and tells how many. There are none only at the end of the input.
-fn read_piece<L: Link>(link: &mut L, held: &mut Octets) -> Result<usize, PullFault>
+fn read_chunk<L: Link>(link: &mut L, held: &mut Octets) -> Result<usize, PullFault>
     ensures grows { IfOk result (λ count. Grows held.old held.new (L.seen link.old) (L.seen link.new) count) }
     ensures fault { IfErr result (λ fault. IsNotRead (L.seen link.old) (L.seen link.new) fault) }
 {
-    let mut piece = [0; PIECE_BYTES];
+    let mut piece = [0; CHUNK_BYTES];
     match link.read(&mut piece) {
         Ok(count) => match held.extend(piece.split_at(count).0) {
             Ok(()) => Ok(count),

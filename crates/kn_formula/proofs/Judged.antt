@@ -2,41 +2,43 @@
 use Rattle.std.proofs.Common.{◌≡◌, true, false, List, [], ◌∷◌, length, Option, Some, None, Result, Ok, Err, refl, sym}
 use Rattle.std.proofs.Common.{ap, subst, ◌∙◌, arith}
 use Rattle.kn_env.specs.declared.constant.Constant.{Constant}
-use Rattle.kn_lex.specs.Cutting.{Seen}
+use Rattle.kn_lex.specs.Cutting.{TokenView}
 use Rattle.kn_fields.specs.Words.{Word, words_of}
 use Rattle.kn_fields.specs.Reading.{ReadsWhole}
-use Rattle.kn_fields.specs.declared.unread.Unread.{Unread}
-use Rattle.kn_fields.specs.declared.unread.Unread.TheVariants.{Syntax as unread_Syntax, NoMemory as unread_NoMemory}
+use Rattle.kn_fields.specs.declared.grammar_fault.GrammarFault.{GrammarFault}
+use Rattle.kn_fields.specs.declared.grammar_fault.GrammarFault.TheVariants.{Syntax as grammar_Syntax}
+use Rattle.kn_fields.specs.declared.grammar_fault.GrammarFault.TheVariants.{NoMemory as grammar_NoMemory}
 use Rattle.kn_trees.specs.declared.formula.Formula.{Formula}
 use Rattle.kn_formula.specs.Trees.{has_bad_threshold}
 use Rattle.kn_formula.specs.Reading.{read_words}
 use Rattle.kn_formula.specs.Naming.{Names}
-use Rattle.kn_formula.specs.Licensing.{judged_read, licensees_of, Gives, of_unread}
+use Rattle.kn_formula.specs.Licensing.{judged_read, licensees_of, Gives, of_grammar_fault}
 use Rattle.kn_formula.specs.declared.fault.FormulaFault.{FormulaFault}
 use Rattle.kn_formula.specs.declared.fault.FormulaFault.TheVariants.{Threshold, Name, NoMemory}
 use Rattle.kn_formula.specs.declared.written.Written.{Written}
 
 -- a field without tokens
-pub nothing_given : (constants : List Constant) (tokens : List Seen) (words : List Word) → words ≡ words_of tokens
+pub nothing_given : (constants : List Constant) (tokens : List TokenView) (words : List Word) → words ≡ words_of tokens
     → length words ≡ 0 → licensees_of constants tokens ≡ Ok None
 unfolding licensees_of words_of
 nothing_given constants [] words is none = refl
 nothing_given constants (token ∷ tokens) words is none = let size = ap length is in absurd (omega (arith, size, none))
 
 -- a field with tokens is judged by what is read of them
-pub judged_by : (constants : List Constant) (tokens : List Seen) (words : List Word) → words ≡ words_of tokens
+pub judged_by : (constants : List Constant) (tokens : List TokenView) (words : List Word) → words ≡ words_of tokens
     → (length words ≡ 0 → ⊥) → licensees_of constants tokens ≡ judged_read constants (read_words words)
 unfolding licensees_of words_of
 judged_by constants [] words is some = absurd (some (ap length is))
 judged_by constants (token ∷ tokens) words is some = ap (λ words. judged_read constants (read_words words)) (sym is)
 
-pub unread_given : (constants : List Constant) (found : Result (Option Formula) FormulaFault) (read : Option Written)
-    (unread : Unread) (fault : FormulaFault) → found ≡ judged_read constants read
-    → ReadsWhole {X = Written} (Err unread) read → fault ≡ of_unread unread
+pub grammar_fault_given : (constants : List Constant) (found : Result (Option Formula) FormulaFault)
+    (read : Option Written)
+    (grammar_fault : GrammarFault) (fault : FormulaFault) → found ≡ judged_read constants read
+    → ReadsWhole {X = Written} (Err grammar_fault) read → fault ≡ of_grammar_fault grammar_fault
     → Gives {X = Option Formula} (Err fault) found
-unread_given constants found read unread_Syntax fault judged none is =
+grammar_fault_given constants found read grammar_Syntax fault judged none is =
     subst (λ fault. Gives {X = Option Formula} (Err fault) found) (sym is) (judged ∙ ap (judged_read constants) none)
-unread_given constants found read unread_NoMemory fault judged none is =
+grammar_fault_given constants found read grammar_NoMemory fault judged none is =
     subst (λ fault. Gives {X = Option Formula} (Err fault) found) (sym is) tt
 
 pub threshold_given : (constants : List Constant) (found : Result (Option Formula) FormulaFault) (read : Option Written)

@@ -2,7 +2,7 @@
 use Rattle.std.proofs.Common.{rules, ◌≡◌, ℕ, ◌+◌, ◌*◌, ◌≤◌, List, [], ◌∷◌, ◌++◌, map, codes, refl, sym, ap, subst, ◌∙◌}
 use Rattle.std.proofs.Common.{arith}
 use Rattle.kn_env.specs.declared.constant.Constant.{Constant}
-use Rattle.kn_lex.specs.Cutting.{Seen}
+use Rattle.kn_lex.specs.Cutting.{TokenView}
 use Rattle.kn_fields.specs.Depth.{IsTooDeep}
 use Rattle.kn_fields.specs.Words.{Word, words_of}
 use Rattle.kn_fields.specs.Words.Word.{name as name_word, number as number_word, sign as sign_word}
@@ -13,7 +13,7 @@ use Rattle.kn_trees.specs.declared.formula.Formula.{Formula}
 use Rattle.kn_trees.specs.declared.formula.Formula.TheVariants.{Who as who_formula}
 use Rattle.kn_trees.specs.declared.formula.Formula.TheViews.{the_lemmas}
 use Rattle.kn_trees.specs.declared.formula.Formula.TheFolds.{fold_out-Formula}
-use Rattle.kn_formula.specs.Trees.{joined, need_of, ruled, formula_of}
+use Rattle.kn_formula.specs.Trees.{joined, need_of, formula_by_rule, formula_of}
 use Rattle.kn_formula.specs.Grammar.{Form, Both, One, Forms, form_words, both_words, one_words, forms_words, form_parts}
 use Rattle.kn_formula.specs.Grammar.{both_parts, one_tree, forms_parts}
 use Rattle.kn_formula.specs.Grammar.Form.{both, either}
@@ -70,7 +70,7 @@ unfolding formula_depth
 depth_who text = search (rules, the_lemmas, fold_out-Formula)
 
 depth_ruled : (rule : Rule) (parts : List Formula)
-    → formula_depth (ruled rule parts) ≡ 1 + greatest_of (map formula_depth parts)
+    → formula_depth (formula_by_rule rule parts) ≡ 1 + greatest_of (map formula_depth parts)
 unfolding formula_depth
 depth_ruled All parts = search (rules, the_lemmas, fold_out-Formula)
 depth_ruled Any parts = search (rules, the_lemmas, fold_out-Formula)
@@ -164,7 +164,7 @@ mutual
       )
 
 -- at most 195 levels
-pub tree_depth : (constants : List Constant) (tokens : List Seen) (f : Form) → form_words f ≡ words_of tokens
+pub tree_depth : (constants : List Constant) (tokens : List TokenView) (f : Form) → form_words f ≡ words_of tokens
     → (IsTooDeep tokens → ⊥)
     → formula_depth (formula_of constants (joined Any (form_parts f))) ≤ 195
 tree_depth constants tokens f spelled shallow =

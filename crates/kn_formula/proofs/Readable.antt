@@ -2,7 +2,7 @@
 use Rattle.std.proofs.Common.{◌≡◌, ℕ, ◌≤◌, List, length, Option, Some, None, Result, Ok, Err, ap, sym, ◌∙◌, arith}
 use Rattle.std.specs.Prelude.{IfOk, IfSome}
 use Rattle.kn_env.specs.declared.constant.Constant.{Constant}
-use Rattle.kn_lex.specs.Cutting.{Seen}
+use Rattle.kn_lex.specs.Cutting.{TokenView}
 use Rattle.kn_fields.specs.Fields.{between}
 use Rattle.kn_fields.specs.Depth.{IsTooDeep}
 use Rattle.kn_fields.proofs.Between.{between_length}
@@ -17,7 +17,7 @@ use Rattle.kn_formula.proofs.Licenses.{formula_stands}
 use Rattle.kn_formula.proofs.Sizes.{tree_nodes, tree_sound}
 use Rattle.kn_formula.proofs.Nesting.{tree_depth}
 
-pub stated_readable : (constants : List Constant) (tokens : List Seen) (formula : Formula)
+pub stated_readable : (constants : List Constant) (tokens : List TokenView) (formula : Formula)
     → IsFormula constants tokens formula → (IsTooDeep tokens → ⊥) → IsReadable (length tokens) formula
 stated_readable constants tokens formula is shallow =
     let form = is.spelled.form in
@@ -31,7 +31,7 @@ stated_readable constants tokens formula is shallow =
     }
 
 -- so is what is given of a field among more tokens
-pub given_readable : (constants : List Constant) (tokens : List Seen) (from end : ℕ)
+pub given_readable : (constants : List Constant) (tokens : List TokenView) (from end : ℕ)
     (r : Result (Option Formula) FormulaFault) → from ≤ end → end ≤ length tokens
     → Gives r (licensees_of constants (between from end tokens)) → (IsTooDeep (between from end tokens) → ⊥)
     → IfOk r (λ licensees. IfSome licensees (λ formula. IsReadable (length tokens) formula))

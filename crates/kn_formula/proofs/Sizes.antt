@@ -12,7 +12,7 @@ use Rattle.kn_trees.specs.declared.formula.Formula.TheVariants.{Who as who_formu
 use Rattle.kn_trees.specs.declared.formula.Formula.TheViews.{the_lemmas}
 use Rattle.kn_trees.specs.declared.formula.Formula.TheFolds.{fold_out-Formula}
 use Rattle.kn_fields.specs.Words.Word.{sign as sign_word}
-use Rattle.kn_formula.specs.Trees.{joined, need_of, itself, is_bad_rule, has_bad_threshold, ruled, formula_of}
+use Rattle.kn_formula.specs.Trees.{joined, need_of, itself, is_bad_rule, has_bad_threshold, formula_by_rule, formula_of}
 use Rattle.kn_formula.specs.Grammar.{Form, Both, One, Forms, form_words, both_words, one_words, forms_words, form_parts}
 use Rattle.kn_formula.specs.Grammar.{both_parts, one_tree, forms_parts}
 use Rattle.kn_formula.specs.Grammar.Form.{both, either}
@@ -32,7 +32,7 @@ unfolding formula_nodes
 nodes_who text = search (rules, the_lemmas, fold_out-Formula)
 
 nodes_ruled : (rule : Rule) (parts : List Formula)
-    → formula_nodes (ruled rule parts) ≡ 1 + total (map formula_nodes parts)
+    → formula_nodes (formula_by_rule rule parts) ≡ 1 + total (map formula_nodes parts)
 unfolding formula_nodes
 nodes_ruled All parts = search (rules, the_lemmas, fold_out-Formula)
 nodes_ruled Any parts = search (rules, the_lemmas, fold_out-Formula)
@@ -153,7 +153,7 @@ rule_sound Any count = nat_le 2 count
 rule_sound (AtLeast need) count = nat_le 1 need && nat_le need count
 
 sound_ruled : (rule : Rule) (parts : List Formula)
-    → is_sound (ruled rule parts)
+    → is_sound (formula_by_rule rule parts)
     ≡ (rule_sound rule (length (map is_sound parts)) && list_all itself (map is_sound parts))
 unfolding is_sound
 sound_ruled All parts = search (rules, the_lemmas, fold_out-Formula)

@@ -9,7 +9,7 @@ use Rattle.kn_env.specs.declared.constant.Constant.{Constant}
 use Rattle.kn_trees.specs.declared.formula.Formula.{Formula}
 use Rattle.kn_trees.specs.declared.formula.Formula.TheVariants.{Who as who_formula}
 use Rattle.kn_formula.specs.Trees.{itself, is_bad_rule, has_bad_threshold, principal_text, is_bad_text, normal_text}
-use Rattle.kn_formula.specs.Trees.{has_bad_name, ruled, formula_of}
+use Rattle.kn_formula.specs.Trees.{has_bad_name, formula_by_rule, formula_of}
 use Rattle.kn_formula.specs.Naming.{NamesText, Names}
 use Rattle.kn_formula.specs.declared.fault.FormulaFault.{FormulaFault}
 use Rattle.kn_formula.specs.declared.fault.FormulaFault.TheVariants.{Name, NoMemory}
@@ -53,7 +53,7 @@ unfolding formula_of
 formula_who constants principal = search (rules, the_lemmas, fold_out-Written)
 
 pub formula_several : (constants : List Constant) (rule : Rule) (parts : List Written)
-    → formula_of constants (Several rule parts) ≡ ruled rule (map (formula_of constants) parts)
+    → formula_of constants (Several rule parts) ≡ formula_by_rule rule (map (formula_of constants) parts)
 unfolding formula_of
 formula_several constants rule parts = search (rules, the_lemmas, fold_out-Written)
 
@@ -140,13 +140,13 @@ part_fault constants written rule parts items i part _ is seen within at h = abs
 pub parts_formula : (constants : List Constant) (written : Written) (rule : Rule) (parts items : List Written) (i : ℕ)
     (list : List Formula) (formula : Formula)
     → written ≡ Several rule parts → items ≡ parts → length items ≤ i → list ≡ map (formula_of constants) (take i items)
-    → list_any itself (map (has_bad_name constants) (take i items)) ≡ false → formula ≡ ruled rule list
+    → list_any itself (map (has_bad_name constants) (take i items)) ≡ false → formula ≡ formula_by_rule rule list
     → Names constants written (Ok formula)
 parts_formula constants written rule parts items i list formula is seen past formulas none ruled_is =
     let all : take i items ≡ parts = take_all i items past ∙ seen in
     rw is (
       bad_name_several constants rule parts ∙ rw all at none,
-      ruled_is ∙ ap (ruled rule) (rw all at formulas)
+      ruled_is ∙ ap (formula_by_rule rule) (rw all at formulas)
           ∙ sym (formula_several constants rule parts),
     )
 

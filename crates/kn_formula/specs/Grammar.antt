@@ -1,7 +1,7 @@
 -- Which tokens spell which formula (RFC 2704, section 4, the Licensees field; that an element of a K-of list may be
 -- any formula is keynoted's own choice).
 use Rattle.std.specs.Prelude.{◌≡◌, ℕ, List, [], ◌∷◌, ◌++◌, codes}
-use Rattle.kn_lex.specs.Cutting.{Seen}
+use Rattle.kn_lex.specs.Cutting.{TokenView}
 use Rattle.kn_fields.specs.Words.{Word, words_of}
 use Rattle.kn_fields.specs.Words.Word.{literal as literal_word, name as name_word, number as number_word}
 use Rattle.kn_fields.specs.Words.Word.{sign as sign_word}
@@ -81,7 +81,7 @@ abbrev pub form_tree : Form → Written
 form_tree f = joined Any (form_parts f)
 
 -- the tokens spell the formula
-pub record Spells (tokens : List Seen) (written : Written) : Type 0 where
+pub record Spells (tokens : List TokenView) (written : Written) : Type 0 where
   pub form : Form
   pub words : form_words form ≡ words_of tokens
   pub tree : form_tree form ≡ written

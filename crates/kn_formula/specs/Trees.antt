@@ -74,14 +74,14 @@ abbrev pub normal_text : Option (List ℕ) → List ℕ
 normal_text None = []
 normal_text (Some text) = normal_form text
 
-abbrev pub ruled : Rule → List Formula → Formula
-ruled All parts = formula.All parts
-ruled Any parts = formula.Any parts
-ruled (AtLeast need) parts = formula.Threshold need parts
+abbrev pub formula_by_rule : Rule → List Formula → Formula
+formula_by_rule All parts = formula.All parts
+formula_by_rule Any parts = formula.Any parts
+formula_by_rule (AtLeast need) parts = formula.Threshold need parts
 
 abbrev pub formula_step : List Constant → Written-F Formula → Formula
 formula_step constants (Who principal) = formula.Who (normal_text (principal_text constants principal))
-formula_step constants (Several rule parts) = ruled rule parts
+formula_step constants (Several rule parts) = formula_by_rule rule parts
 
 -- the formula, with its principals in normal form
 unfoldable pub formula_of : List Constant → Written → Formula

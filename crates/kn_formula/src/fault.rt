@@ -1,5 +1,5 @@
 //! The faults of a Licensees field.
-use kn_fields::Unread;
+use kn_fields::GrammarFault;
 
 /// Why the tokens of a Licensees field are no formula. The faults, their order and their numbers are keynoted's own.
 #[derive(Clone, Copy, PartialEq, Eq)]
@@ -15,16 +15,16 @@ pub enum FormulaFault {
     NoMemory,
 }
 
-impl From<Unread> for FormulaFault {
+impl From<GrammarFault> for FormulaFault {
     ghost use Rattle.std.specs.Prelude.{◌≡◌};
-    ghost use Rattle.kn_formula.specs.Licensing.{of_unread};
+    ghost use Rattle.kn_formula.specs.Licensing.{of_grammar_fault};
 
-    ghost from_gives = { λ unread fault. fault ≡ of_unread unread };
+    ghost from_gives = { λ grammar_fault fault. fault ≡ of_grammar_fault grammar_fault };
 
-    fn from(unread: Unread) -> FormulaFault {
-        match unread {
-            Unread::Syntax => FormulaFault::Syntax,
-            Unread::NoMemory => FormulaFault::NoMemory,
+    fn from(grammar_fault: GrammarFault) -> FormulaFault {
+        match grammar_fault {
+            GrammarFault::Syntax => FormulaFault::Syntax,
+            GrammarFault::NoMemory => FormulaFault::NoMemory,
         }
     }
 }

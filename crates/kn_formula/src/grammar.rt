@@ -11,7 +11,7 @@ ghost use Rattle.kn_formula.specs.Reading.{parts_at, more_parts_at, item_at, one
 use crate::threshold::need_of;
 use crate::written::{Principal, Rule, Written};
 use kn_base::{List, NoMemory, Octets};
-use kn_fields::{Cursor, Unread};
+use kn_fields::{Cursor, GrammarFault};
 use kn_lex::{Sort, literal};
 use std::alloc::Global;
 
@@ -50,11 +50,11 @@ fn parts(
     cursor: &mut Cursor<'_, '_>,
     rule: Rule,
     budget: u64,
-) -> Result<Written, Unread>
+) -> Result<Written, GrammarFault>
     ensures { Reads result (parts_at budget rule cursor.old) cursor.new }
 {
     if budget == 0 {
-        return Err(Unread::Syntax);
+        return Err(GrammarFault::Syntax);
     }
     let first = item(alloc, cursor, rule, budget - 1)?;
     if cursor.take_sign(rule_text(rule)) {
@@ -73,7 +73,7 @@ fn more_parts(
     rule: Rule,
     first: Written,
     budget: u64,
-) -> Result<Written, Unread>
+) -> Result<Written, GrammarFault>
     ensures { Reads result (more_parts_at budget rule first cursor.old) cursor.new }
 {
     let mut parts = List::new(alloc);
@@ -87,7 +87,7 @@ fn more_parts(
         }
         left -= 1;
     }
-    Err(Unread::Syntax)
+    Err(GrammarFault::Syntax)
 }
 
 /// A part of a list under a rule.
@@ -98,7 +98,7 @@ fn item(
     cursor: &mut Cursor<'_, '_>,
     rule: Rule,
     budget: u64,
-) -> Result<Written, Unread>
+) -> Result<Written, GrammarFault>
     ensures { Reads result (item_at budget rule cursor.old) cursor.new }
 {
     match rule {
@@ -116,7 +116,7 @@ fn is_opening(text: &[u8]) -> bool
 }
 
 /// What stands between the number of a threshold and its list.
-fn of_front(cursor: &mut Cursor<'_, '_>) -> Result<(), Unread>
+fn of_front(cursor: &mut Cursor<'_, '_>) -> Result<(), GrammarFault>
     ensures { Reads result (of_front cursor.old) cursor.new }
 {
     cursor.expect_sign(b"-".as_slice())?;
@@ -127,14 +127,14 @@ fn of_front(cursor: &mut Cursor<'_, '_>) -> Result<(), Unread>
 /// A principal, a formula in brackets or a threshold.
 #[cycle(form)]
 #[inline(always)]
-fn one(alloc: Global, cursor: &mut Cursor<'_, '_>, budget: u64) -> Result<Written, Unread>
+fn one(alloc: Global, cursor: &mut Cursor<'_, '_>, budget: u64) -> Result<Written, GrammarFault>
     ensures { Reads result (one_at budget cursor.old) cursor.new }
 {
     if budget == 0 {
-        return Err(Unread::Syntax);
+        return Err(GrammarFault::Syntax);
     }
     let Some(token) = cursor.take() else {
-        return Err(Unread::Syntax);
+        return Err(GrammarFault::Syntax);
     };
     match token.sort {
         Sort::Text => {
@@ -147,7 +147,7 @@ fn one(alloc: Global, cursor: &mut Cursor<'_, '_>, budget: u64) -> Result<Writte
         }
         Sort::Number => {
             of_front(cursor)?;
-            bracketed(
+            read_brackets(
                 alloc,
                 cursor,
                 Rule::AtLeast(need_of(token.text)),
@@ -156,23 +156,23 @@ fn one(alloc: Global, cursor: &mut Cursor<'_, '_>, budget: u64) -> Result<Writte
         }
         Sort::Sign => {
             if is_opening(token.text) {
-                bracketed(alloc, cursor, Rule::Any, budget - 1)
+                read_brackets(alloc, cursor, Rule::Any, budget - 1)
             } else {
-                Err(Unread::Syntax)
+                Err(GrammarFault::Syntax)
             }
         }
-        _ => Err(Unread::Syntax),
+        _ => Err(GrammarFault::Syntax),
     }
 }
 
 /// A list in brackets, of which the opening one is read.
 #[cycle(form)]
-fn bracketed(
+fn read_brackets(
     alloc: Global,
     cursor: &mut Cursor<'_, '_>,
     rule: Rule,
     budget: u64,
-) -> Result<Written, Unread>
+) -> Result<Written, GrammarFault>
     ensures { Reads result (then_read (parts_at budget rule cursor.old) (closed_by (codes ")"))) cursor.new }
 {
     let whole = parts(alloc, cursor, rule, budget)?;
@@ -181,13 +181,13 @@ fn bracketed(
 }
 
 /// The formula that all the tokens spell.
-pub(crate) fn written(alloc: Global, cursor: &mut Cursor<'_, '_>) -> Result<Written, Unread>
+pub(crate) fn written(alloc: Global, cursor: &mut Cursor<'_, '_>) -> Result<Written, GrammarFault>
     ensures { ReadsWhole result (read_words cursor.old) }
 {
     let budget = 3 * u64::from(cursor.len());
     let whole = parts(alloc, cursor, Rule::Any, budget)?;
     match cursor.take() {
-        Some(_) => Err(Unread::Syntax),
+        Some(_) => Err(GrammarFault::Syntax),
         None => Ok(whole),
     }
 }

@@ -4,7 +4,7 @@
 mod fault;
 mod grammar;
 pub mod laws;
-mod named;
+mod normal_formula;
 mod reader;
 mod threshold;
 mod written;

@@ -7,7 +7,7 @@ ghost use Rattle.kn_formula.specs.Licensing.{licensees_of, Gives, AreLicensees, 
 
 use crate::fault::FormulaFault;
 use crate::grammar::written;
-use crate::named::formula;
+use crate::normal_formula::formula;
 use crate::threshold::has_bad_threshold;
 use kn_base::List;
 use kn_env::Constant;
@@ -54,7 +54,7 @@ fn read_licensees(
     }
     let written = match written(alloc, &mut cursor) {
         Ok(written) => written,
-        Err(unread) => return Err(FormulaFault::from(unread)),
+        Err(grammar_fault) => return Err(FormulaFault::from(grammar_fault)),
     };
     if has_bad_threshold(&written) {
         return Err(FormulaFault::Threshold);

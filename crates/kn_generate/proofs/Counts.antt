@@ -29,11 +29,11 @@ use Rattle.kn_system.specs.Lawful.{IsLeast}
 use Rattle.kn_answer.specs.Numbering.{IsNumber, IsAbsent, AreDistinct, AreNamesOf, HaveLevels, NamedPiece, Leaf, Gate}
 use Rattle.kn_answer.specs.Numbering.{formula_pieces, licensees_pieces, ArePiecesOf, AreRowsOf}
 use Rattle.kn_answer.specs.Built.{Interned, IsBuilt}
-use Rattle.kn_answer.proofs.Bridge.{bytes_eq-same, bytes_eq-true, number_or_none, level_at, level_at-have}
-use Rattle.kn_answer.proofs.Bridge.{IsLeast-by_name}
-use Rattle.kn_answer.proofs.Folded.{formula_nodes-Who, formula_names-Who, formula_pieces-Who, IsGate, IsGate-All}
-use Rattle.kn_answer.proofs.Folded.{IsGate-Any, IsGate-Threshold}
-use Rattle.kn_answer.proofs.Grown.{AreNumbered-length}
+use Rattle.kn_answer.proofs.NamedLevels.{bytes_eq-same, bytes_eq-true, number_or_none, level_at, level_at-have}
+use Rattle.kn_answer.proofs.NamedLevels.{IsLeast-by_name}
+use Rattle.kn_answer.proofs.FormulaFolds.{formula_nodes-Who, formula_names-Who, formula_pieces-Who, IsGate, IsGate-All}
+use Rattle.kn_answer.proofs.FormulaFolds.{IsGate-Any, IsGate-Threshold}
+use Rattle.kn_answer.proofs.NewNames.{AreNumbered-length}
 use Rattle.kn_generate.specs.declared.query.Measured.{Measured}
 use Rattle.kn_meaning.specs.Critical.{licensees_nodes}
 use Rattle.kn_generate.specs.Measured.{granted_count, HasCounts, IsMeasured}

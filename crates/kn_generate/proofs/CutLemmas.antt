@@ -6,22 +6,22 @@ use Rattle.std.specs.List.{prefix_len, list_all}
 use Rattle.kn_lex.specs.Bytes.{is_white}
 use Rattle.kn_lex.specs.Spelling.{is_blank}
 use Rattle.kn_lex.specs.Faults.{goes_on}
-use Rattle.kn_lex.specs.Scanning.{is_bad_blank, plain_piece, white_len, colon_len, zero_place}
+use Rattle.kn_lex.specs.Scanning.{is_bad_blank, plain_lexeme, white_len, colon_len, zero_place}
 use Rattle.kn_lex.specs.declared.token.Sort.TheVariants.{Label, Name, Number, Text, Sign}
-use Rattle.kn_lex.specs.declared.piece.Piece.{Piece}
-use Rattle.kn_lex.specs.declared.piece.Piece.TheVariants.{White, Token}
-use Rattle.kn_lex.specs.declared.piece.Place.{Place}
-use Rattle.kn_lex.specs.declared.piece.Context.TheVariants.{LineStart, WithinLine}
+use Rattle.kn_lex.specs.declared.lexeme.Lexeme.{Lexeme}
+use Rattle.kn_lex.specs.declared.lexeme.Lexeme.TheVariants.{White, Token}
+use Rattle.kn_lex.specs.declared.lexeme.Place.{Place}
+use Rattle.kn_lex.specs.declared.lexeme.Context.TheVariants.{LineStart, WithinLine}
 use Rattle.kn_program.specs.Signs.{number_of}
 use Rattle.kn_generate.proofs.Scans.{bytes_of, IsCut, AreCuts}
 use Rattle.kn_generate.proofs.Literals.{ArePlain, quoted, literal_cut}
 
 -- within a line, and at the beginning of a later line
 abbrev pub inner : Place
-inner = record { context = WithinLine; told = true }
+inner = record { context = WithinLine; has_token = true }
 
 abbrev pub outer : Place
-outer = record { context = LineStart; told = true }
+outer = record { context = LineStart; has_token = true }
 
 -- what holds of a digit by its value
 pub record IsDigit (t : ℕ) : Type 0 where
@@ -31,7 +31,7 @@ pub record IsDigit (t : ℕ) : Type 0 where
   pub valued : number_of ((48 + t) ∷ []) ≡ Some value
 
 abbrev pub Cuts : Type 0
-Cuts = List (Piece × List ℕ)
+Cuts = List (Lexeme × List ℕ)
 
 -- the pieces of a credential where its numbers are spelled so, in the order of their places
 abbrev pub conditions_cuts : List ℕ → List ℕ → Cuts
@@ -72,23 +72,23 @@ no_blank : (b : ℕ) (bytes : List ℕ) → is_white b ≡ false → (b == 10) �
 no_blank b bytes dark e = ap (λ (blank : Bool). blank && goes_on false (b ∷ bytes)) (not_blank b bytes dark e)
 
 label_cut : (rest : List ℕ) → IsCut start (Token Label) (codes "Authorizer:") (32 ∷ rest)
-unfolding plain_piece colon_len zero_place
-label_cut rest = record { some = refl; told = refl; cut = refl; clean = λ at. refl }
+unfolding plain_lexeme colon_len zero_place
+label_cut rest = record { some = refl; exact = refl; cut = refl; clean = λ at. refl }
 
 licensees_label : (rest : List ℕ) → IsCut outer (Token Label) (codes "Licensees:") (32 ∷ rest)
-unfolding plain_piece colon_len zero_place
+unfolding plain_lexeme colon_len zero_place
 licensees_label rest = record {
   some = refl;
-  told = no_blank 76 (codes "icensees:" ++ 32 ∷ rest) refl refl;
+  exact = no_blank 76 (codes "icensees:" ++ 32 ∷ rest) refl refl;
   cut = refl;
   clean = λ at. refl;
 }
 
 conditions_label : (rest : List ℕ) → IsCut outer (Token Label) (codes "Conditions:") (32 ∷ rest)
-unfolding plain_piece colon_len zero_place
+unfolding plain_lexeme colon_len zero_place
 conditions_label rest = record {
   some = refl;
-  told = no_blank 67 (codes "onditions:" ++ 32 ∷ rest) refl refl;
+  exact = no_blank 67 (codes "onditions:" ++ 32 ∷ rest) refl refl;
   cut =
       refl;
   clean = λ at. refl;
@@ -101,20 +101,20 @@ space_before : (rest : List ℕ)
     × (IsCut inner White (codes " ") (50 ∷ rest) × (IsCut inner White (codes " ") (64 ∷ rest)
     × (IsCut inner White (codes " ") (62 ∷ rest)
     × (IsCut inner White (codes " ") (45 ∷ rest) × IsCut inner White (codes " ") (116 ∷ rest)))))))
-unfolding plain_piece white_len zero_place
+unfolding plain_lexeme white_len zero_place
 space_before rest = (
-  record { some = refl; told = refl; cut = refl; clean = λ at. refl },
+  record { some = refl; exact = refl; cut = refl; clean = λ at. refl },
   (
-    record { some = refl; told = refl; cut = refl; clean = λ at. refl },
+    record { some = refl; exact = refl; cut = refl; clean = λ at. refl },
     (
-      record { some = refl; told = refl; cut = refl; clean = λ at. refl },
+      record { some = refl; exact = refl; cut = refl; clean = λ at. refl },
       (
-        record { some = refl; told = refl; cut = refl; clean = λ at. refl },
+        record { some = refl; exact = refl; cut = refl; clean = λ at. refl },
         (
-          record { some = refl; told = refl; cut = refl; clean = λ at. refl },
+          record { some = refl; exact = refl; cut = refl; clean = λ at. refl },
           (
-            record { some = refl; told = refl; cut = refl; clean = λ at. refl },
-            record { some = refl; told = refl; cut = refl; clean = λ at. refl },
+            record { some = refl; exact = refl; cut = refl; clean = λ at. refl },
+            record { some = refl; exact = refl; cut = refl; clean = λ at. refl },
           ),
         ),
       ),
@@ -123,8 +123,8 @@ space_before rest = (
 )
 
 line_end : (rest : List ℕ) → IsCut inner White (codes "\n") rest
-unfolding plain_piece white_len zero_place
-line_end rest = record { some = refl; told = refl; cut = refl; clean = λ at. refl }
+unfolding plain_lexeme white_len zero_place
+line_end rest = record { some = refl; exact = refl; cut = refl; clean = λ at. refl }
 
 -- signs before a byte that they don't go on with
 sign_cuts : (rest : List ℕ)
@@ -135,26 +135,26 @@ sign_cuts : (rest : List ℕ)
     × (IsCut inner (Token Sign) (codes ">") (32 ∷ rest)
     × (IsCut inner (Token Sign) (codes "->") (32 ∷ rest)
     × (IsCut inner (Token Sign) (codes ";") (32 ∷ rest) × IsCut inner (Token Sign) (codes ";") (10 ∷ rest))))))))))
-unfolding plain_piece zero_place
+unfolding plain_lexeme zero_place
 sign_cuts rest = (
-  record { some = refl; told = refl; cut = refl; clean = λ at. refl },
+  record { some = refl; exact = refl; cut = refl; clean = λ at. refl },
   (
-    record { some = refl; told = refl; cut = refl; clean = λ at. refl },
+    record { some = refl; exact = refl; cut = refl; clean = λ at. refl },
     (
-      record { some = refl; told = refl; cut = refl; clean = λ at. refl },
+      record { some = refl; exact = refl; cut = refl; clean = λ at. refl },
       (
-        record { some = refl; told = refl; cut = refl; clean = λ at. refl },
+        record { some = refl; exact = refl; cut = refl; clean = λ at. refl },
         (
-          record { some = refl; told = refl; cut = refl; clean = λ at. refl },
+          record { some = refl; exact = refl; cut = refl; clean = λ at. refl },
           (
-            record { some = refl; told = refl; cut = refl; clean = λ at. refl },
+            record { some = refl; exact = refl; cut = refl; clean = λ at. refl },
             (
-              record { some = refl; told = refl; cut = refl; clean = λ at. refl },
+              record { some = refl; exact = refl; cut = refl; clean = λ at. refl },
               (
-                record { some = refl; told = refl; cut = refl; clean = λ at. refl },
+                record { some = refl; exact = refl; cut = refl; clean = λ at. refl },
                 (
-                  record { some = refl; told = refl; cut = refl; clean = λ at. refl },
-                  record { some = refl; told = refl; cut = refl; clean = λ at. refl },
+                  record { some = refl; exact = refl; cut = refl; clean = λ at. refl },
+                  record { some = refl; exact = refl; cut = refl; clean = λ at. refl },
                 ),
               ),
             ),
@@ -168,14 +168,14 @@ sign_cuts rest = (
 word_cuts : (rest : List ℕ)
     → (IsCut inner (Token Number) (codes "2") (45 ∷ 111 ∷ rest) × (IsCut inner (Token Name) (codes "of") (40 ∷ rest)
     × (IsCut inner (Token Name) (codes "level") (32 ∷ rest) × IsCut inner (Token Name) (codes "true") (32 ∷ rest))))
-unfolding plain_piece zero_place
+unfolding plain_lexeme zero_place
 word_cuts rest = (
-  record { some = refl; told = refl; cut = refl; clean = λ at. refl },
+  record { some = refl; exact = refl; cut = refl; clean = λ at. refl },
   (
-    record { some = refl; told = refl; cut = refl; clean = λ at. refl },
+    record { some = refl; exact = refl; cut = refl; clean = λ at. refl },
     (
-      record { some = refl; told = refl; cut = refl; clean = λ at. refl },
-      record { some = refl; told = refl; cut = refl; clean = λ at. refl },
+      record { some = refl; exact = refl; cut = refl; clean = λ at. refl },
+      record { some = refl; exact = refl; cut = refl; clean = λ at. refl },
     ),
   ),
 )
@@ -346,75 +346,75 @@ at_digit P a b c d e f g h i j (suc (suc (suc (suc (suc (suc (suc (suc (suc (suc
     absurd (omega arith)
 
 pub digit_is : (t : ℕ) → t < 10 → IsDigit t
-unfolding plain_piece white_len zero_place number_of
+unfolding plain_lexeme white_len zero_place number_of
 digit_is t small = at_digit IsDigit
     (record {
-      spaced = λ rest. record { some = refl; told = refl; cut = refl; clean = λ at. refl };
+      spaced = λ rest. record { some = refl; exact = refl; cut = refl; clean = λ at. refl };
       cut =
-          λ rest. record { some = refl; told = refl; cut = refl; clean = λ at. refl };
+          λ rest. record { some = refl; exact = refl; cut = refl; clean = λ at. refl };
       value = 0;
       valued = refl;
     })
     (record {
-      spaced = λ rest. record { some = refl; told = refl; cut = refl; clean = λ at. refl };
+      spaced = λ rest. record { some = refl; exact = refl; cut = refl; clean = λ at. refl };
       cut =
-          λ rest. record { some = refl; told = refl; cut = refl; clean = λ at. refl };
+          λ rest. record { some = refl; exact = refl; cut = refl; clean = λ at. refl };
       value = 1;
       valued = refl;
     })
     (record {
-      spaced = λ rest. record { some = refl; told = refl; cut = refl; clean = λ at. refl };
+      spaced = λ rest. record { some = refl; exact = refl; cut = refl; clean = λ at. refl };
       cut =
-          λ rest. record { some = refl; told = refl; cut = refl; clean = λ at. refl };
+          λ rest. record { some = refl; exact = refl; cut = refl; clean = λ at. refl };
       value = 2;
       valued = refl;
     })
     (record {
-      spaced = λ rest. record { some = refl; told = refl; cut = refl; clean = λ at. refl };
+      spaced = λ rest. record { some = refl; exact = refl; cut = refl; clean = λ at. refl };
       cut =
-          λ rest. record { some = refl; told = refl; cut = refl; clean = λ at. refl };
+          λ rest. record { some = refl; exact = refl; cut = refl; clean = λ at. refl };
       value = 3;
       valued = refl;
     })
     (record {
-      spaced = λ rest. record { some = refl; told = refl; cut = refl; clean = λ at. refl };
+      spaced = λ rest. record { some = refl; exact = refl; cut = refl; clean = λ at. refl };
       cut =
-          λ rest. record { some = refl; told = refl; cut = refl; clean = λ at. refl };
+          λ rest. record { some = refl; exact = refl; cut = refl; clean = λ at. refl };
       value = 4;
       valued = refl;
     })
     (record {
-      spaced = λ rest. record { some = refl; told = refl; cut = refl; clean = λ at. refl };
+      spaced = λ rest. record { some = refl; exact = refl; cut = refl; clean = λ at. refl };
       cut =
-          λ rest. record { some = refl; told = refl; cut = refl; clean = λ at. refl };
+          λ rest. record { some = refl; exact = refl; cut = refl; clean = λ at. refl };
       value = 5;
       valued = refl;
     })
     (record {
-      spaced = λ rest. record { some = refl; told = refl; cut = refl; clean = λ at. refl };
+      spaced = λ rest. record { some = refl; exact = refl; cut = refl; clean = λ at. refl };
       cut =
-          λ rest. record { some = refl; told = refl; cut = refl; clean = λ at. refl };
+          λ rest. record { some = refl; exact = refl; cut = refl; clean = λ at. refl };
       value = 6;
       valued = refl;
     })
     (record {
-      spaced = λ rest. record { some = refl; told = refl; cut = refl; clean = λ at. refl };
+      spaced = λ rest. record { some = refl; exact = refl; cut = refl; clean = λ at. refl };
       cut =
-          λ rest. record { some = refl; told = refl; cut = refl; clean = λ at. refl };
+          λ rest. record { some = refl; exact = refl; cut = refl; clean = λ at. refl };
       value = 7;
       valued = refl;
     })
     (record {
-      spaced = λ rest. record { some = refl; told = refl; cut = refl; clean = λ at. refl };
+      spaced = λ rest. record { some = refl; exact = refl; cut = refl; clean = λ at. refl };
       cut =
-          λ rest. record { some = refl; told = refl; cut = refl; clean = λ at. refl };
+          λ rest. record { some = refl; exact = refl; cut = refl; clean = λ at. refl };
       value = 8;
       valued = refl;
     })
     (record {
-      spaced = λ rest. record { some = refl; told = refl; cut = refl; clean = λ at. refl };
+      spaced = λ rest. record { some = refl; exact = refl; cut = refl; clean = λ at. refl };
       cut =
-          λ rest. record { some = refl; told = refl; cut = refl; clean = λ at. refl };
+          λ rest. record { some = refl; exact = refl; cut = refl; clean = λ at. refl };
       value = 9;
       valued = refl;
     })

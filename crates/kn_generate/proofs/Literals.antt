@@ -4,12 +4,12 @@ use Rattle.std.proofs.Common.{Option, Some, None, length, take, arith, refl, ◌
 use Rattle.std.specs.Prelude.{nat_lt, decimal}
 use Rattle.std.proofs.lemmas.Bool.{ne_eqb, le-ltb, or_from}
 use Rattle.std.proofs.lemmas.Fmt.{decimal_by_steps, length-decimal-le}
-use Rattle.kn_lex.specs.Scanning.{quote_len, more_len, with_sort, plain_piece, zero_place, zero_fault}
+use Rattle.kn_lex.specs.Scanning.{quote_len, more_len, with_sort, plain_lexeme, zero_place, zero_fault}
 use Rattle.kn_lex.specs.Literal.{value_behind, inside, literal_value}
 use Rattle.kn_lex.specs.declared.quote.Quote.TheVariants.{Plain}
 use Rattle.kn_lex.specs.declared.token.Sort.TheVariants.{Text}
-use Rattle.kn_lex.specs.declared.piece.Piece.TheVariants.{Token}
-use Rattle.kn_lex.specs.declared.piece.Context.TheVariants.{WithinLine}
+use Rattle.kn_lex.specs.declared.lexeme.Lexeme.TheVariants.{Token}
+use Rattle.kn_lex.specs.declared.lexeme.Context.TheVariants.{WithinLine}
 use Rattle.kn_generate.proofs.Scans.{IsCut, take_front}
 
 -- a byte that stands for itself in a literal
@@ -61,8 +61,8 @@ no_zero [] are = refl
 no_zero (b ∷ body) are = rw (are.0.zero_byte) (ap (more_len 1) (no_zero body are.1))
 
 literal_piece : (body rest : List ℕ) → ArePlain body
-    → plain_piece false (quoted body ++ rest) ≡ Some (Token Text, length (quoted body))
-unfolding plain_piece quote_len
+    → plain_lexeme false (quoted body ++ rest) ≡ Some (Token Text, length (quoted body))
+unfolding plain_lexeme quote_len
 literal_piece body rest are =
     let found : quote_len Plain ((body ++ 34 ∷ []) ++ rest) ≡ Some (length (body ++ 34 ∷ [])) =
     ap (quote_len Plain) (append_assoc body (34 ∷ []) rest) ∙ plain_len body rest are in
@@ -73,10 +73,10 @@ literal_clean : (body : List ℕ) (at : ℕ) → ArePlain body → zero_fault at
 unfolding zero_place
 literal_clean body at are = ap (λ (o : Option ℕ). zero_fault at (more_len 1 o)) (no_zero body are)
 
-pub literal_cut : (told : Bool) (body rest : List ℕ) → ArePlain body
-    → IsCut (record { context = WithinLine; told = told }) (Token Text) (quoted body) rest
-literal_cut told body rest are =
-    record { some = refl; told = refl; cut = literal_piece body rest are; clean = λ at. literal_clean body at are }
+pub literal_cut : (has_token : Bool) (body rest : List ℕ) → ArePlain body
+    → IsCut (record { context = WithinLine; has_token = has_token }) (Token Text) (quoted body) rest
+literal_cut has_token body rest are =
+    record { some = refl; exact = refl; cut = literal_piece body rest are; clean = λ at. literal_clean body at are }
 
 plain_value : (body : List ℕ) → ArePlain body → value_behind 0 body ≡ body
 unfolding value_behind

@@ -5,7 +5,7 @@ use Rattle.std.specs.List.{list_all}
 use Rattle.std.specs.Prelude.{pos, map, nat_lt, is_ok, is_some, IsSome, ok_or}
 use Rattle.std.specs.Option.{option_map_or}
 use Rattle.std.specs.Result.{result_ok}
-use Rattle.kn_lex.specs.Cutting.{Seen, start}
+use Rattle.kn_lex.specs.Cutting.{TokenView, start}
 use Rattle.kn_lex.specs.Literal.{literal_value}
 use Rattle.kn_lex.specs.Computed.{tokens_or_fault}
 use Rattle.kn_fields.specs.Fields.{field_of, fields_of, field_with}
@@ -29,8 +29,8 @@ use Rattle.kn_trees.specs.declared.program.Comparison.TheVariants.{Gt}
 use Rattle.kn_trees.specs.declared.program.Clause.{Clause}
 use Rattle.kn_trees.specs.declared.program.Then.TheVariants.{Value}
 use Rattle.kn_trees.specs.declared.program.Then.TheFolds.{fold-roll-Program}
-use Rattle.kn_trees.proofs.Kinded.{kind_of-Truth, kind_of-Whole, kind_of-Text, kind_of-Name, kind_of-Number}
-use Rattle.kn_trees.proofs.Kinded.{kind_of-Compare, is_then_well_kinded-Value, is_clause_well_kinded-parts}
+use Rattle.kn_trees.proofs.ExprKindLaws.{kind_of-Truth, kind_of-Whole, kind_of-Text, kind_of-Name, kind_of-Number}
+use Rattle.kn_trees.proofs.ExprKindLaws.{kind_of-Compare, is_then_well_kinded-Value, is_clause_well_kinded-parts}
 use Rattle.kn_program.specs.Grammar.{program_with, Sum, Unary, Or, program_words as form_words, entry_words}
 use Rattle.kn_program.specs.Grammar.{clause_words, or_words, and_words, not_words, cmp_words, sum_words, product_words}
 use Rattle.kn_program.specs.Grammar.{power_words, unary_words, atom_words, program_clauses, entry_clauses, clause_tree}
@@ -76,7 +76,7 @@ use Rattle.kn_generate.proofs.Literals.{quoted, IsNaming}
 use Rattle.kn_generate.proofs.CutLemmas.{IsDigit, credential_cuts, policy_cuts, Cuts}
 
 -- the tokens of the field of a number
-abbrev pub of_field : ℕ → List Seen → List Seen
+abbrev pub of_field : ℕ → List TokenView → List TokenView
 of_field number tokens = option_map_or (λ field. field.tokens) (field_with number tokens) []
 
 -- a field that is read leaves what the others state
@@ -88,12 +88,12 @@ field_read (Ok x) make rest last e h = h x
 field_read (Err fault) make rest last e h = cc
 
 -- the fields of a short text whose tokens show no fault
-pub fields_told : (text : List ℕ) (tokens : List Seen) → nat_lt 16384 (length text) ≡ false
+pub fields_told : (text : List ℕ) (tokens : List TokenView) → nat_lt 16384 (length text) ≡ false
     → tokens_or_fault text ≡ Ok tokens → fault_in tokens ≡ None → fields_or_fault text ≡ Ok tokens
 unfolding fields_or_fault
 fields_told text tokens short cut none = rw (short, cut, none) refl
 
-pub text_reads : (text : List ℕ) (tokens : List Seen) → nat_lt 16384 (length text) ≡ false
+pub text_reads : (text : List ℕ) (tokens : List TokenView) → nat_lt 16384 (length text) ≡ false
     → tokens_or_fault text ≡ Ok tokens → fault_in tokens ≡ None
     → is_some (result_ok (reading_with text tokens)) ≡ true → IsSome (assertion_of text)
 unfolding reading_of

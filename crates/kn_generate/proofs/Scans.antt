@@ -5,32 +5,32 @@ use Rattle.std.proofs.Common.{subst, append_assoc, append-nil, length-append}
 use Rattle.std.specs.Prelude.{nat_lt}
 use Rattle.std.proofs.lemmas.Bool.Decides.{nat_tests}
 use Rattle.std.proofs.lemmas.List.Prefix.{front_rest}
-use Rattle.kn_lex.specs.Cutting.{Seen, start, place_after, token_of, is_empty}
-use Rattle.kn_lex.specs.Scanning.{piece_at, fault_at, piece_fault, is_bad_blank}
-use Rattle.kn_lex.specs.Computed.{told_by, tokens_from, tokens_or_fault}
-use Rattle.kn_lex.specs.declared.piece.Piece.{Piece}
-use Rattle.kn_lex.specs.declared.piece.Place.{Place}
+use Rattle.kn_lex.specs.Cutting.{TokenView, start, place_after, token_of, is_empty}
+use Rattle.kn_lex.specs.Scanning.{lexeme_at, fault_at, lexeme_fault, is_bad_blank}
+use Rattle.kn_lex.specs.Computed.{next_tokens, tokens_from, tokens_or_fault}
+use Rattle.kn_lex.specs.declared.lexeme.Lexeme.{Lexeme}
+use Rattle.kn_lex.specs.declared.lexeme.Place.{Place}
 use Rattle.kn_lex.specs.declared.fault.LexFault.{LexFault}
 
 -- the bytes of pieces
-abbrev pub bytes_of : List (Piece × List ℕ) → List ℕ
+abbrev pub bytes_of : List (Lexeme × List ℕ) → List ℕ
 bytes_of [] = []
 bytes_of (c ∷ cs) = c.1 ++ bytes_of cs
 
 -- the tokens among them, from this place on
-abbrev pub tokens_at : Place → ℕ → List (Piece × List ℕ) → List Seen
+abbrev pub tokens_at : Place → ℕ → List (Lexeme × List ℕ) → List TokenView
 tokens_at place at [] = []
 tokens_at place at (c ∷ cs) = token_of place.context at c.0 c.1
     ++ tokens_at (place_after place c.0 c.1) (at + length c.1) cs
 
 -- the piece is cut here, before this rest, and shows no fault
-pub record IsCut (place : Place) (piece : Piece) (bytes rest : List ℕ) : Type 0 where
+pub record IsCut (place : Place) (piece : Lexeme) (bytes rest : List ℕ) : Type 0 where
   pub some : is_empty bytes ≡ false
-  pub told : is_bad_blank place (bytes ++ rest) ≡ false
-  pub cut : piece_at place.context (bytes ++ rest) ≡ Some (piece, length bytes)
-  pub clean : (at : ℕ) → piece_fault at piece bytes rest ≡ None
+  pub exact : is_bad_blank place (bytes ++ rest) ≡ false
+  pub cut : lexeme_at place.context (bytes ++ rest) ≡ Some (piece, length bytes)
+  pub clean : (at : ℕ) → lexeme_fault at piece bytes rest ≡ None
 
-abbrev pub AreCuts : Place → List (Piece × List ℕ) → Type 0
+abbrev pub AreCuts : Place → List (Lexeme × List ℕ) → Type 0
 AreCuts place [] = Unit {0}
 AreCuts place (c ∷ cs) = IsCut place c.0 c.1 (bytes_of cs) × AreCuts (place_after place c.0 c.1) cs
 
@@ -46,26 +46,27 @@ positive : (bytes : List ℕ) → is_empty bytes ≡ false → 0 < length bytes
 positive [] e = cc
 positive (b ∷ bytes) e = omega arith
 
-clean_at : (place : Place) (at : ℕ) (piece : Piece) (bytes rest : List ℕ) → IsCut place piece bytes rest
+clean_at : (place : Place) (at : ℕ) (piece : Lexeme) (bytes rest : List ℕ) → IsCut place piece bytes rest
     → fault_at place at (bytes ++ rest) ≡ None
 clean_at place at piece bytes rest is =
-    rw (is.told, is.cut, take_front bytes rest, front_rest (bytes ++ rest) bytes rest refl) (is.clean at)
+    rw (is.exact, is.cut, take_front bytes rest, front_rest (bytes ++ rest) bytes rest refl) (is.clean at)
 
-goes_on : (k : ℕ) (text other cut bytes : List ℕ) (m n at : ℕ) (place : Place) (piece : Piece) (tokens : List Seen)
-    (all : Result (List Seen) LexFault)
+goes_on : (k : ℕ) (text other cut bytes : List ℕ) (m n at : ℕ) (place : Place) (piece : Lexeme)
+    (tokens : List TokenView)
+    (all : Result (List TokenView) LexFault)
     → text ≡ other → cut ≡ bytes → m ≡ n
     → tokens_from k other (place_after place piece bytes) n (tokens ++ token_of place.context at piece bytes) ≡ all
     → tokens_from k text (place_after place piece cut) m (tokens ++ token_of place.context at piece cut) ≡ all
 goes_on k text other cut bytes m n at place piece tokens all e f g h = rw (e, f, g) h
 
-by : (b : Bool) → b ≡ true → (o : Option LexFault) → o ≡ None → (q : Option (Piece × ℕ)) (p : Piece × ℕ) → q ≡ Some p
-    → (tokens : List Seen)
-    → (go : Piece × ℕ → Result (List Seen) LexFault) (all : Result (List Seen) LexFault) → go p ≡ all
-    → (if b then told_by o q tokens go else Ok tokens) ≡ all
+by : (b : Bool) → b ≡ true → (o : Option LexFault) → o ≡ None → (q : Option (Lexeme × ℕ)) (p : Lexeme × ℕ) → q ≡ Some p
+    → (tokens : List TokenView)
+    → (go : Lexeme × ℕ → Result (List TokenView) LexFault) (all : Result (List TokenView) LexFault) → go p ≡ all
+    → (if b then next_tokens o q tokens go else Ok tokens) ≡ all
 by b e o f q p g tokens go all h = rw (e, f, g) h
 
 -- the tokens of what is left, where it is cut so
-pub cut_tokens : (cs : List (Piece × List ℕ)) (front : List ℕ) (place : Place) (tokens : List Seen) (k : ℕ)
+pub cut_tokens : (cs : List (Lexeme × List ℕ)) (front : List ℕ) (place : Place) (tokens : List TokenView) (k : ℕ)
     → AreCuts place cs → length cs ≤ k
     → tokens_from k (front ++ bytes_of cs) place (length front) tokens
     ≡ Ok (tokens ++ tokens_at place (length front) cs)
@@ -88,8 +89,8 @@ cut_tokens (c ∷ cs) front place tokens (suc k) are le =
     let left : drop (length front) text ≡ bytes ++ rest = front_rest text front (bytes ++ rest) refl in
     let fine : fault_at place (length front) (drop (length front) text) ≡ None = ap (fault_at place (length front)) left
     ∙ clean_at place (length front) c.0 bytes rest are.0 in
-    let found : piece_at place.context (drop (length front) text) ≡ Some (c.0, length bytes) =
-    ap (piece_at place.context) left ∙ are.0.cut in
+    let found : lexeme_at place.context (drop (length front) text) ≡ Some (c.0, length bytes) =
+    ap (lexeme_at place.context) left ∙ are.0.cut in
     let taken : take (length bytes) (drop (length front) text) ≡ bytes = ap (take (length bytes)) left
     ∙ take_front bytes rest in
     let along : length front + length bytes ≡ length (front ++ bytes) = sym (length-append front bytes) in
@@ -104,14 +105,14 @@ cut_tokens (c ∷ cs) front place tokens (suc k) are le =
     append_assoc tokens added (tokens_at next (length (front ++ bytes)) cs)
     ∙ ap (λ (n : ℕ). tokens ++ (added ++ tokens_at next n cs)) (sym along) in
     by (nat_lt (length front) (length text)) below (fault_at place (length front) (drop (length front) text)) fine
-    (piece_at place.context (drop (length front) text)) (c.0, length bytes) found tokens
+    (lexeme_at place.context (drop (length front) text)) (c.0, length bytes) found tokens
     (λ p. tokens_from k text (place_after place p.0 (take p.1 (drop (length front) text))) (length front + p.1)
     (tokens ++ token_of place.context (length front) p.0 (take p.1 (drop (length front) text)))) _
     (goes_on k text ((front ++ bytes) ++ rest) _ bytes _ (length (front ++ bytes)) (length front) place c.0 tokens _
     (sym (append_assoc front bytes rest)) taken along (later ∙ ap Ok same))
 
 -- the tokens of a text that is cut so, where it has enough bytes
-pub text_tokens : (text : List ℕ) (cs : List (Piece × List ℕ)) → text ≡ bytes_of cs → AreCuts start cs
+pub text_tokens : (text : List ℕ) (cs : List (Lexeme × List ℕ)) → text ≡ bytes_of cs → AreCuts start cs
     → length cs ≤ length text → tokens_or_fault text ≡ Ok (tokens_at start 0 cs)
 unfolding tokens_or_fault
 text_tokens text cs is are enough =

@@ -1,4 +1,4 @@
--- What is told of a query that was settled: its value, and how large the system of it is (keynoted's own).
+-- What is reported of a query that was settled: its value, and how large the system of it is (keynoted's own).
 use Rattle.std.specs.Prelude.{ℕ, ◌≡◌, ◌+◌, ◌&&◌, not, nat_lt, Bool, false, slice_index_or, List, [], ◌∷◌, length}
 use Rattle.std.specs.Prelude.{sum_by, count_by, if◌then◌else◌}
 use Rattle.std.specs.List.{list_any, IsDistinct}

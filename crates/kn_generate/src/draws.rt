@@ -31,6 +31,8 @@ impl Draws {
         ensures draw_value { result ≡ draw_value 1 self.old.state }
         ensures small { result < 32768 }
     {
+        // The numbers are those of the example of `rand` in ISO C. The state has 31 bits, and a draw leaves out the
+        // lowest 16.
         let product = 1103515245 * u64::from(self.state) + 12345;
         self.state = (product % 2147483648) as u32;
         self.state / 65536

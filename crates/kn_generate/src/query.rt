@@ -1,4 +1,4 @@
-//! What is told of the generator's query.
+//! What is reported of the generator's query.
 ghost use Rattle.std.specs.Prelude.{◌≡◌, ◌<◌, ◌≤◌, ◌∷◌, [], length, map, slice_get, None, Some, IfOk};
 ghost use Rattle.kn_base.specs.declared.limits.TheConstants.{GENERATED_CREDENTIALS};
 ghost use Rattle.std.specs.Arc.{arc_value};
@@ -21,7 +21,7 @@ use kn_store::Snapshot;
 use kn_system::{System, laws};
 use std::alloc::Global;
 
-/// What is told of a query that was settled.
+/// What is reported of a query that was settled.
 #[derive(Clone, Copy, PartialEq, Eq)]
 pub struct Measured {
     /// The policy's level in the least fixed point, the lowest being 0.

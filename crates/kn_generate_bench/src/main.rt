@@ -1,7 +1,7 @@
 //! How long the parts of `gen` take: generating texts, reading them, adding them at one turn, building the system and
 //! settling it.
 //!
-//! Without words what is told of the query over 128 to 2,048 credentials is printed. With `time` it is the nanoseconds
+//! Without words the figures of the query over 128 to 2,048 credentials are printed. With `time` it is the nanoseconds
 //! of each part over so many, each the least of several rounds.
 #![tactic(auto)]
 
@@ -69,15 +69,15 @@ fn read_all(
     texts: &List<Octets>,
 ) -> io::Result<(u128, Vec<Ready>)> {
     let start = Instant::now(clock)?;
-    let mut readies = Vec::new(alloc);
+    let mut ready_texts = Vec::new(alloc);
     for text in texts.as_slice() {
         let ready = make_ready(alloc, text.as_slice())?;
-        readies.push(ready).or(Err(lacks_memory()))?;
+        ready_texts.push(ready).or(Err(lacks_memory()))?;
     }
-    Ok((since(clock, start)?, readies))
+    Ok((since(clock, start)?, ready_texts))
 }
 
-/// Builds and settles the query over a version, and answers the nanoseconds of each, and what is told.
+/// Builds and settles the query over a version, and answers the nanoseconds of each, and its figures.
 fn settle_query(
     clock: &impl Clock,
     alloc: Global,
@@ -99,7 +99,7 @@ fn settle_query(
     Ok((building, since(clock, start)?, measured))
 }
 
-/// The parts of one run over so many credentials, and what is told of its query.
+/// The parts of one run over so many credentials, and the figures of its query.
 fn measure_once<R: Wait + Clock>(rt: &R, alloc: Global, count: u32) -> io::Result<(Parts, Measured)>
     requires some { 1 ≤ count }
     requires most { count ≤ 2048 }
@@ -112,9 +112,9 @@ fn measure_once<R: Wait + Clock>(rt: &R, alloc: Global, count: u32) -> io::Resul
     let Ok((registry, mut root)) = Registry::start(alloc) else {
         return Err(lacks_memory());
     };
-    let (reading, readies) = read_all(rt, alloc, &texts)?;
+    let (reading, ready_texts) = read_all(rt, alloc, &texts)?;
     let start = Instant::now(rt)?;
-    let Ok(()) = registry.add_all(rt, &mut root, readies) else {
+    let Ok(()) = registry.add_all(rt, &mut root, ready_texts) else {
         return Err(lacks_memory());
     };
     let adding = since(rt, start)?;
@@ -144,7 +144,7 @@ fn measure_often<R: Wait + Clock>(rt: &R, alloc: Global, count: u32) -> io::Resu
     Ok(parts)
 }
 
-/// Prints what each part of `gen` takes at each size, or what is told of the query.
+/// Prints what each part of `gen` takes at each size, or the figures of the query.
 ///
 /// `handle` is the runtime that may wait, and `rt` the same one, which prints.
 fn measure_generating<R: Wait + Clock>(
@@ -160,10 +160,15 @@ fn measure_generating<R: Wait + Clock>(
                 parts.generating, parts.reading, parts.adding, parts.building, parts.settling
             )?;
         } else {
-            let (_, told) = measure_once(handle, rt.alloc(), size)?;
+            let (_, figures) = measure_once(handle, rt.alloc(), size)?;
             println!(rt;
                 "{size} credentials: level {}, {} rows, {} principals, {} nodes, {} uses, {} levels",
-                told.level, told.rows, told.principals, told.nodes, told.uses, told.levels
+                figures.level,
+                figures.rows,
+                figures.principals,
+                figures.nodes,
+                figures.uses,
+                figures.levels
             )?;
         }
     }

@@ -55,7 +55,7 @@ refused_from number past (item ∷ items) =
 abbrev pub refusal_of_items : List Numbered → List Item → Option (ℕ × StoreFault)
 refusal_of_items past items = refused_from 1 past items
 
--- the same changes, told by the id that the next addition has: the ids of additions go on from it
+-- the same changes, given by the id that the next addition has: the ids of additions go on from it
 abbrev pub numbered_from : ℕ → List Item → List Numbered
 numbered_from next [] = []
 numbered_from next (I.Add text ∷ items) = record { change = Add text; id = next } ∷ numbered_from (next + 1) items
@@ -89,7 +89,7 @@ pub record IsRefusedItem (past : List Numbered) (items : List Item) (number : �
       → refusal_of_item (past ++ all_numbered past first) one ≡ None
   pub refused : refusal_of_item (past ++ all_numbered past front) item ≡ Some fault
 
--- why a batch is refused: its first refused item, counted from 1, and for what; nothing is told when out of memory
+-- why a batch is refused: its first refused item, counted from 1, and for what; nothing is said when out of memory
 abbrev pub RefusesBatch : Option (ℕ × StoreFault) → BatchFault → Type 0
 RefusesBatch found (B.Item item fault) = found ≡ Some (item, fault)
 RefusesBatch found B.NoMemory = Unit {0}

@@ -101,7 +101,7 @@ abbrev pub RetainedIsValid : Type 0
 RetainedIsValid = (history kept : List Update) (number : ℕ) → is_valid_history history ≡ true
     → retained_version history number ≡ Some kept → is_valid_history kept ≡ true
 
--- an update that may follow is told by its caller and its items: all ids are determined
+-- an update that may follow is given by its caller and its items: all ids are determined
 abbrev pub ItemsDetermineUpdate : Type 0
 ItemsDetermineUpdate = (past : List Numbered) (update : Update) → update_may_follow past update ≡ true
     → update ≡ batch_by update.caller (additions past + 1) (items_in update.changes)

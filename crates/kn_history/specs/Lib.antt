@@ -6,4 +6,4 @@ pub mod Retained
 pub mod Singles
 pub mod Changed
 pub mod Laws
-pub mod Readies
+pub mod ReadyTexts

@@ -35,7 +35,7 @@ impl Model for Ready {
 
     ghost view = { λ r. (arc_value r.credential).text };
 
-    ghost use Rattle.kn_history.specs.Readies.{IsReadyToAdd};
+    ghost use Rattle.kn_history.specs.ReadyTexts.{IsReadyToAdd};
 
     ghost invariant = { IsReadyToAdd };
 }

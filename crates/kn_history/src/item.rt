@@ -10,7 +10,9 @@ use kn_base::List;
 /// A change that is asked for: the addition of a text that is ready, or the removal of an id.
 #[derive(Drop)]
 pub enum Item {
+    /// Adds the credential of this text.
     Add(Ready),
+    /// Removes the credential of this id.
     Remove(u32),
 }
 

@@ -5,7 +5,9 @@ use kn_base::{List, Octets};
 /// What a change does: it adds the credential of this text, or removes one.
 #[derive(Drop)]
 pub enum Change {
+    /// A credential is added: these are its text's bytes.
     Add(Octets),
+    /// A credential is removed. Its id stands beside the change.
     Remove,
 }
 

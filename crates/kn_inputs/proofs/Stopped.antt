@@ -12,10 +12,11 @@ use Rattle.kn_load.specs.Loaded.{StopsLoading}
 use Rattle.kn_load.specs.declared.fault.LoadFault.{LoadFault}
 use Rattle.kn_load.specs.declared.fault.LoadFault.TheVariants as L
 use Rattle.kn_history.specs.declared.fault.StoreFault.TheVariants as F
-use Rattle.kn_inputs.specs.declared.stop.Stop.{Stop}
-use Rattle.kn_inputs.specs.declared.stop.Stop.TheVariants.{Words, FileFailed, FileTooLarge, Policy, Limit, KeyLine}
-use Rattle.kn_inputs.specs.declared.stop.Stop.TheVariants.{Memory}
-use Rattle.kn_inputs.specs.Stops.{stop_of}
+use Rattle.kn_inputs.specs.declared.input_fault.InputFault.{InputFault}
+use Rattle.kn_inputs.specs.declared.input_fault.InputFault.TheVariants.{Words, FileFailed, FileTooLarge, Policy, Limit}
+use Rattle.kn_inputs.specs.declared.input_fault.InputFault.TheVariants.{KeyLine}
+use Rattle.kn_inputs.specs.declared.input_fault.InputFault.TheVariants.{Memory}
+use Rattle.kn_inputs.specs.InputFaults.{input_fault_of}
 use Rattle.kn_inputs.specs.Held.{HasContent, IsPolicy, AreKeys, IsFileRead}
 use Rattle.kn_inputs.specs.Stopping.{IsUnread}
 use Rattle.kn_inputs.specs.Inputs.{StopsAtPolicy, StopsAtKeys, AreKeysStopped}
@@ -23,7 +24,7 @@ use Rattle.kn_inputs.proofs.Files.{content_there, too_large_there, keeps_content
 use Rattle.kn_inputs.proofs.Files.{asked_nothing}
 
 -- a policy file that isn't read stops the command
-pub unread_policy : (f f' : FilesSeen) (name : List ℕ) (stop : Stop) → IsUnread f f' name stop
+pub unread_policy : (f f' : FilesSeen) (name : List ℕ) (stop : InputFault) → IsUnread f f' name stop
     → StopsAtPolicy f f' name stop
 unread_policy f f' name FileFailed unread = unread
 unread_policy f f' name FileTooLarge unread = unread
@@ -34,7 +35,8 @@ unread_policy f f' name (Limit n word count) unread = absurd unread
 unread_policy f f' name (KeyLine n) unread = absurd unread
 
 -- and so does one that isn't loaded
-pub unloaded_policy : (f f' : FilesSeen) (name bytes : List ℕ) (fault : LoadFault) (stop : Stop) → stop ≡ stop_of fault
+pub unloaded_policy : (f f' : FilesSeen) (name bytes : List ℕ) (fault : LoadFault) (stop : InputFault)
+    → stop ≡ input_fault_of fault
     → HasAsked (name ∷ []) f f' → HasContent f name bytes →
     StopsLoading (pieces_of bytes) fault → StopsAtPolicy f f' name stop
 unloaded_policy f f' name bytes fault stop is asked has stops =
@@ -43,22 +45,22 @@ unloaded_policy f f' name bytes fault stop is asked has stops =
     read : IsFileRead name f f' bytes
     read = record { asked = asked; content = has }
 
-    by : (why : LoadFault) → StopsLoading (pieces_of bytes) why → StopsAtPolicy f f' name (stop_of why)
+    by : (why : LoadFault) → StopsLoading (pieces_of bytes) why → StopsAtPolicy f f' name (input_fault_of why)
     by (L.Faulty n fault) found = (bytes, read, found)
     by (L.Full n (F.LiveFull count)) found =
-        (bytes, read, record { refusal = F.LiveFull count; full = found; told = refl })
+        (bytes, read, record { refusal = F.LiveFull count; full = found; exact = refl })
     by (L.Full n (F.BytesFull count)) found =
-        (bytes, read, record { refusal = F.BytesFull count; full = found; told = refl })
+        (bytes, read, record { refusal = F.BytesFull count; full = found; exact = refl })
     by (L.Full n (F.HistoryFull count)) found =
-        (bytes, read, record { refusal = F.HistoryFull count; full = found; told = refl })
+        (bytes, read, record { refusal = F.HistoryFull count; full = found; exact = refl })
     by (L.Full n (F.LogFull count)) found =
-        (bytes, read, record { refusal = F.LogFull count; full = found; told = refl })
+        (bytes, read, record { refusal = F.LogFull count; full = found; exact = refl })
     by (L.Full n (F.Unknown id)) found = inr asked
     by (L.Full n F.NoMemory) found = inr asked
     by L.NoMemory found = inr asked
 
 -- a key file that isn't read stops the command
-pub unread_keys : (f f' : FilesSeen) (name : List ℕ) (stop : Stop) → IsUnread f f' name stop
+pub unread_keys : (f f' : FilesSeen) (name : List ℕ) (stop : InputFault) → IsUnread f f' name stop
     → StopsAtKeys f f' [] name stop
 unread_keys f f' name FileFailed unread = unread
 unread_keys f f' name FileTooLarge unread = unread
@@ -69,7 +71,7 @@ unread_keys f f' name (Limit n word count) unread = absurd unread
 unread_keys f f' name (KeyLine n) unread = absurd unread
 
 -- the same, behind files that were read
-keys_behind : (front : List (List ℕ)) (f mid f' : FilesSeen) (name : List ℕ) (stop : Stop) → HasAsked front f mid
+keys_behind : (front : List (List ℕ)) (f mid f' : FilesSeen) (name : List ℕ) (stop : InputFault) → HasAsked front f mid
     → StopsAtKeys mid f' [] name stop → StopsAtKeys f f' front name stop
 keys_behind front f mid f' name FileFailed before stops = failed_behind front (name ∷ []) f mid f' before stops
 keys_behind front f mid f' name FileTooLarge before stops = (
@@ -99,7 +101,7 @@ keys_behind front f mid f' name Words before stops = absurd stops
 keys_behind front f mid f' name (Policy n fault) before stops = absurd stops
 keys_behind front f mid f' name (Limit n word count) before stops = absurd stops
 
-pub keys_stopped : (f mid f' : FilesSeen) (names : AskNames) (bytes : List ℕ) (stop : Stop)
+pub keys_stopped : (f mid f' : FilesSeen) (names : AskNames) (bytes : List ℕ) (stop : InputFault)
     → IsPolicy f names.policy bytes → HasAsked (names.policy ∷ []) f mid →
     IsSomeAnd names.keys (λ name. StopsAtKeys mid f' [] name stop) → AreKeysStopped f f' names stop
 keys_stopped f mid f' names bytes stop policy before stops = by names.keys refl stops

@@ -8,12 +8,12 @@ use Rattle.kn_history.specs.Loading.{IsLoadable}
 use Rattle.kn_auth.specs.KeyFiles.{IsKeyFile}
 use Rattle.kn_auth.specs.declared.key_file.KeyFile.{KeyFile}
 
--- these bytes were read from the file of this name: its content, if contents are told, and not too large
+-- these bytes were read from the file of this name: its content, if contents are seen, and not too large
 pub record HasContent (files : FilesSeen) (name bytes : List ℕ) : Type 0 where
   pub content : IfSome files.content (λ content_of. content_of name ≡ Some bytes)
   pub within : length bytes ≤ FILE_BYTES
 
--- the file of this name is larger than any that is read, if contents are told
+-- the file of this name is larger than any that is read, if contents are seen
 abbrev pub IsTooLarge : FilesSeen → List ℕ → Type 0
 IsTooLarge files name =
     IfSome files.content (λ content_of. IsSomeAnd (content_of name) (λ bytes. FILE_BYTES < length bytes))

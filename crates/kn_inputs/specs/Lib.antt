@@ -1,4 +1,4 @@
-pub mod Stops
+pub mod InputFaults
 pub mod Held
 pub mod Stopping
 pub mod Inputs

@@ -7,13 +7,14 @@ use Rattle.kn_history.specs.Loading.{IsFullAt}
 use Rattle.kn_reply.specs.declared.refusal.LimitWord.{LimitWord}
 use Rattle.kn_reply.specs.declared.refusal.Refusal.TheVariants.{Limit as TheLimit}
 use Rattle.kn_daemon.specs.Daemon.{refusal_of_store}
-use Rattle.kn_inputs.specs.declared.stop.Stop.{Stop}
-use Rattle.kn_inputs.specs.declared.stop.Stop.TheVariants.{Words, FileFailed, FileTooLarge, Policy, Limit, KeyLine}
-use Rattle.kn_inputs.specs.declared.stop.Stop.TheVariants.{Memory}
+use Rattle.kn_inputs.specs.declared.input_fault.InputFault.{InputFault}
+use Rattle.kn_inputs.specs.declared.input_fault.InputFault.TheVariants.{Words, FileFailed, FileTooLarge, Policy, Limit}
+use Rattle.kn_inputs.specs.declared.input_fault.InputFault.TheVariants.{KeyLine}
+use Rattle.kn_inputs.specs.declared.input_fault.InputFault.TheVariants.{Memory}
 use Rattle.kn_inputs.specs.Held.{IsTooLarge}
 
 -- why a file isn't read
-abbrev pub IsUnread : FilesSeen → FilesSeen → List ℕ → Stop → Type 0
+abbrev pub IsUnread : FilesSeen → FilesSeen → List ℕ → InputFault → Type 0
 IsUnread f f' name FileFailed = HasFailed (name ∷ []) f f'
 IsUnread f f' name FileTooLarge = HasAsked (name ∷ []) f f' × IsTooLarge f name
 IsUnread f f' name Memory = f' ≡ f
@@ -26,4 +27,4 @@ IsUnread f f' name (KeyLine n) = ⊥
 pub record IsLimitAt (texts : List (List ℕ)) (n : ℕ) (word : LimitWord) (count : ℕ) : Type 0 where
   pub refusal : StoreFault
   pub full : IsFullAt texts n refusal
-  pub told : refusal_of_store refusal ≡ Some (TheLimit word count)
+  pub exact : refusal_of_store refusal ≡ Some (TheLimit word count)

@@ -2,9 +2,9 @@
 #![tactic(auto)]
 
 mod content;
+mod input_fault;
 mod keys;
-mod stop;
 
 pub use content::read_file;
+pub use input_fault::InputFault;
 pub use keys::keys_of;
-pub use stop::Stop;

@@ -10,7 +10,7 @@ use Rattle.kn_trees.specs.declared.formula.Formula.TheOpen.{Formula-F}
 use Rattle.kn_trees.specs.declared.formula.Formula.TheOpen.Formula-F.{Who, All, Any, Threshold}
 use Rattle.kn_trees.specs.declared.formula.Formula.TheFolds.{fold-roll-Formula, map-Formula, ind-Formula}
 use Rattle.kn_meaning.specs.Formulas.{Levels, level_step, formula_level}
-use Rattle.kn_laws.proofs.Reached.{threshold-carried, threshold-le}
+use Rattle.kn_laws.proofs.Thresholds.{threshold-carried, threshold-le}
 
 -- who has u in the first has it in the second
 abbrev pub Carries : ℕ → Levels → Levels → Type 0

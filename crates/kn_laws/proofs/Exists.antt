@@ -12,8 +12,8 @@ use Rattle.kn_proof.specs.declared.named.NamedRow.{NamedRow}
 use Rattle.kn_meaning.specs.Formulas.{Levels}
 use Rattle.kn_meaning.specs.Equations.{Equations, Statement, worth, is_requester}
 use Rattle.kn_meaning.specs.Proofs.{row_level, levels_by, Supports, IsRow, AreRows, IsProof}
-use Rattle.kn_laws.proofs.Turned.{Below, worth-carried, worth-le}
-use Rattle.kn_laws.proofs.Followed.{All-cons, row_level-push}
+use Rattle.kn_laws.proofs.Rounds.{Below, worth-carried, worth-le}
+use Rattle.kn_laws.proofs.PlainProofs.{All-cons, row_level-push}
 
 -- each level above v that an assertion is worth, its authorizer has
 abbrev IsClosedAbove : Equations → ℕ → Levels → Statement → Type 0

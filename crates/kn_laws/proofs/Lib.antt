@@ -1,10 +1,10 @@
-pub mod Reached
+pub mod Thresholds
 pub mod Climb
-pub mod Turned
+pub mod Rounds
 pub mod Proven
 pub mod Settles
-pub mod Tabled
-pub mod Followed
+pub mod PlainTables
+pub mod PlainProofs
 pub mod Exists
-pub mod Unnamed
-pub mod Fewer
+pub mod UnnamedAssertions
+pub mod FewerAssertions

@@ -9,7 +9,7 @@ use Rattle.kn_meaning.specs.Formulas.{Levels}
 use Rattle.kn_meaning.specs.Equations.{Equations, Statement, worth, highest_worth, is_requester, round, IsLeast}
 use Rattle.kn_meaning.specs.Proofs.{row_level, levels_by, Supports, IsRow, AreRows, IsClosed, IsProof}
 use Rattle.kn_laws.specs.Laws.{IsDetermined}
-use Rattle.kn_laws.proofs.Turned.{Below, worth-below, round-below}
+use Rattle.kn_laws.proofs.Rounds.{Below, worth-below, round-below}
 
 -- there is one least solution at most
 pub one_least : (e : Equations) (at other : Levels) → IsLeast e at → IsLeast e other → (name : List ℕ)

@@ -12,7 +12,7 @@ use Rattle.kn_meaning.specs.Equations.{Equations, Statement, worth, highest_wort
 use Rattle.kn_meaning.specs.Equations.{IsPolicyLevel}
 use Rattle.kn_meaning.specs.Occurring.{licensees_names, statement_names, occurring}
 use Rattle.kn_laws.specs.Least.{each_once, principals, at_first, rounds, least_levels}
-use Rattle.kn_laws.proofs.Turned.{Below, round-below, round-le}
+use Rattle.kn_laws.proofs.Rounds.{Below, round-below, round-le}
 use Rattle.kn_laws.proofs.Proven.{one_least}
 
 abbrev pub is_among : List ℕ → List (List ℕ) → Bool

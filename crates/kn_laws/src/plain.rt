@@ -31,7 +31,7 @@ fn push_level(
 }
 
 /// The requesters at the top.
-/// Slow, and only there to be compared with.
+/// There is an entry for each, in their order.
 pub fn requester_levels(
     alloc: Global,
     top: u8,
@@ -47,7 +47,6 @@ pub fn requester_levels(
 }
 
 /// Whether a table has an entry for a name.
-/// Slow, and only there to be compared with.
 pub fn has_entry(table: &[Level], name: &[u8]) -> bool
     ensures { result ≡ T.has_entry table.now name.now }
 {
@@ -71,7 +70,6 @@ fn is_same_id(left: Id, right: Id) -> bool
 }
 
 /// Whether an assertion has a row's id and principal, and is worth the row's level under these levels.
-/// Slow, and only there to be compared with.
 pub fn supports(
     alloc: Global,
     top: u8,
@@ -88,7 +86,6 @@ pub fn supports(
 }
 
 /// Whether one of these assertions supports a row.
-/// Slow, and only there to be compared with.
 pub fn is_supported(
     alloc: Global,
     top: u8,
@@ -108,7 +105,7 @@ pub fn is_supported(
 }
 
 /// Whether a row may follow those of a table, of which the requesters stand in front.
-/// Slow, and only there to be compared with.
+/// It may where its principal has no level yet, its level is from 1 to `top`, and an assertion supports it.
 pub fn may_follow(
     alloc: Global,
     top: u8,
@@ -125,7 +122,6 @@ pub fn may_follow(
 }
 
 /// Whether no assertion is worth more than its authorizer has.
-/// Slow, and only there to be compared with.
 pub fn is_closed(
     alloc: Global,
     top: u8,
@@ -183,7 +179,7 @@ fn follows(
 
 /// Whether the rows prove that the policy has this level, where these assertions are stated and these
 /// principals request.
-/// Slow, and only there to be compared with.
+/// Takes the rows one by one, and at the end looks whether the table is closed.
 pub fn is_proof(
     alloc: Global,
     top: u8,

@@ -13,7 +13,7 @@ use Rattle.kn_lex.specs.declared.quote.Quote.TheVariants.{Opening, Plain, Escape
 use Rattle.kn_lex.specs.declared.quote.Step.{Step}
 use Rattle.kn_lex.specs.declared.quote.Step.TheVariants.{Fail, Close, Go}
 use Rattle.kn_lex.proofs.Scans.{more_len_zero}
-use Rattle.kn_lex.proofs.Spelled.{choice, same_byte}
+use Rattle.kn_lex.proofs.ScannedLengths.{choice, same_byte}
 
 -- items and the closing quote
 pub record IsClosed (bytes : List ℕ) : Type 0 where

@@ -11,20 +11,21 @@ use Rattle.kn_base.specs.Decimal.{is_digit}
 use Rattle.kn_lex.specs.Bytes.{begins_name, continues_name}
 use Rattle.kn_lex.specs.Spelling.{is_run, is_label_tail, is_label, is_body, is_sign, items_bytes, IsLiteral}
 use Rattle.kn_lex.specs.Spelling.{SpellsPlain, Spells}
-use Rattle.kn_lex.specs.Cutting.{IsPiece, is_token, Reaches, Cuts, Seen, start, place_after, context_after, tokens_of}
+use Rattle.kn_lex.specs.Cutting.{IsLexeme, is_token, Reaches, Cuts}
+use Rattle.kn_lex.specs.Cutting.{TokenView, start, place_after, context_after, tokens_of}
 use Rattle.kn_lex.specs.Cutting.{is_line_start, is_comment_label, ends_line}
 use Rattle.kn_lex.specs.TokenFacts.{StandInOrder, begins_line}
 use Rattle.kn_lex.specs.declared.token.Sort.{Sort}
 use Rattle.kn_lex.specs.declared.token.Sort.TheVariants.{Label, Body, Name, Number, Text, Sign}
-use Rattle.kn_lex.specs.declared.piece.Piece.{Piece}
-use Rattle.kn_lex.specs.declared.piece.Piece.TheVariants.{White, Comment, Token}
-use Rattle.kn_lex.specs.declared.piece.Place.{Place}
-use Rattle.kn_lex.specs.declared.piece.Context.{Context}
-use Rattle.kn_lex.specs.declared.piece.Context.TheVariants.{LineStart, WithinLine, CommentBody}
-use Rattle.kn_lex.proofs.Spelled.{both, only_body}
+use Rattle.kn_lex.specs.declared.lexeme.Lexeme.{Lexeme}
+use Rattle.kn_lex.specs.declared.lexeme.Lexeme.TheVariants.{White, Comment, Token}
+use Rattle.kn_lex.specs.declared.lexeme.Place.{Place}
+use Rattle.kn_lex.specs.declared.lexeme.Context.{Context}
+use Rattle.kn_lex.specs.declared.lexeme.Context.TheVariants.{LineStart, WithinLine, CommentBody}
+use Rattle.kn_lex.proofs.ScannedLengths.{both, only_body}
 
--- the token that a piece of this sort is
-abbrev pub made : Context → ℕ → Sort → List ℕ → Seen
+-- the token that a lexeme of this sort is
+abbrev pub made : Context → ℕ → Sort → List ℕ → TokenView
 made context at sort bytes =
     record {
       sort = sort;
@@ -34,36 +35,36 @@ made context at sort bytes =
           is_line_start context;
     }
 
--- what holds behind the last piece, and before each piece where it holds behind it, holds of the tokens from a place on
-pub along : (whole : List ℕ) (P : Place → ℕ → List Seen → Type 0)
+-- what holds behind the last lexeme, and before each one where it holds behind it, holds of the tokens from a place on
+pub along : (whole : List ℕ) (P : Place → ℕ → List TokenView → Type 0)
     (none : (end : Place) (at : ℕ) → drop at whole ≡ [] → P end at [])
-    (skip : (place : Place) (at : ℕ) (piece : Piece) (n : ℕ) (left : List Seen)
-    → IsPiece place.context (drop at whole) piece n
-    → (is_token piece ≡ false) ⊎ (n ≡ 0) → P (place_after place piece (take n (drop at whole))) (at + n) left
+    (skip : (place : Place) (at : ℕ) (lexeme : Lexeme) (n : ℕ) (left : List TokenView)
+    → IsLexeme place.context (drop at whole) lexeme n
+    → (is_token lexeme ≡ false) ⊎ (n ≡ 0) → P (place_after place lexeme (take n (drop at whole))) (at + n) left
     → P place at left)
-    (token : (place : Place) (at : ℕ) (sort : Sort) (n : ℕ) (left : List Seen)
-    → IsPiece place.context (drop at whole) (Token sort) n → 0 < n
+    (token : (place : Place) (at : ℕ) (sort : Sort) (n : ℕ) (left : List TokenView)
+    → IsLexeme place.context (drop at whole) (Token sort) n → 0 < n
     → P (place_after place (Token sort) (take n (drop at whole))) (at + n) left
     → P place at (made place.context at sort (take n (drop at whole)) ∷ left))
-    (pieces : List (Piece × ℕ)) (place : Place) (at : ℕ) (end : Place) → Reaches place (drop at whole) pieces end []
-    → P place at (tokens_of place at (drop at whole) pieces)
+    (lexemes : List (Lexeme × ℕ)) (place : Place) (at : ℕ) (end : Place) → Reaches place (drop at whole) lexemes end []
+    → P place at (tokens_of place at (drop at whole) lexemes)
 along whole P none skip token [] place at end h = none place at h.1
-along whole P none skip token ((piece, n) ∷ ps) place at end h =
+along whole P none skip token ((lexeme, n) ∷ ps) place at end h =
     grind (
       arith,
       drop-drop,
       length-take-le,
-      along whole P none skip token ps (place_after place piece (take n (drop at whole))) (at + n) end,
+      along whole P none skip token ps (place_after place lexeme (take n (drop at whole))) (at + n) end,
     )
 
-pub in_order : (text : List ℕ) (tokens : List Seen) → Cuts text tokens → StandInOrder 0 tokens
+pub in_order : (text : List ℕ) (tokens : List TokenView) → Cuts text tokens → StandInOrder 0 tokens
 in_order text tokens h =
-    rw h.told
+    rw h.exact
     (along text (λ place at tokens. (from : ℕ) → from ≤ at → StandInOrder from tokens) (λ end at e from le. tt)
-    (λ place at piece n left cut empty rest from le. rest from (omega arith))
+    (λ place at lexeme n left cut empty rest from le. rest from (omega arith))
     (λ place at sort n left cut some rest from le.
     let size = length-take-le n (drop at text) cut.within in (le, omega (arith, size), rest _ (omega (arith, size))))
-    h.pieces start 0 h.reached.0 h.reached.1 0 (omega arith))
+    h.lexemes start 0 h.reached.0 h.reached.1 0 (omega arith))
 
 -- what ends no line
 
@@ -104,10 +105,10 @@ sign_end bytes e = grind (arith, nat_tests)
 literal_end : (bytes : List ℕ) → IsLiteral bytes → ends_line bytes ≡ false
 literal_end bytes h = ap ends_line h.spelled ∙ ends_append (34 ∷ items_bytes h.items) 34 []
 
--- the place behind a piece is at the beginning of a line exactly where the piece ends one
+-- the place behind a lexeme is at the beginning of a line exactly where the lexeme ends one
 
-plain_ends : (first : Bool) (piece : Piece) (c : ℕ) (cs : List ℕ) → SpellsPlain first piece (c ∷ cs)
-    → is_line_start (context_after piece (c ∷ cs)) ≡ ends_line (c ∷ cs)
+plain_ends : (first : Bool) (lexeme : Lexeme) (c : ℕ) (cs : List ℕ) → SpellsPlain first lexeme (c ∷ cs)
+    → is_line_start (context_after lexeme (c ∷ cs)) ≡ ends_line (c ∷ cs)
 plain_ends first White c cs s = grind arith
 plain_ends first Comment c cs s =
     sym (run_end (λ b. b == 35) (λ b. not (b == 10)) (c ∷ cs) (λ c e. grind (arith, nat_tests)) (λ c e. grind arith) s)
@@ -128,21 +129,21 @@ plain_ends first (Token Number) c cs s =
 plain_ends first (Token Text) c cs s = sym (literal_end (c ∷ cs) s)
 plain_ends first (Token Sign) c cs s = sym (sign_end (c ∷ cs) s)
 
-context_ends : (context : Context) (piece : Piece) (c : ℕ) (cs : List ℕ) → Spells context piece (c ∷ cs)
-    → is_line_start (context_after piece (c ∷ cs)) ≡ ends_line (c ∷ cs)
-context_ends LineStart piece c cs s = plain_ends true piece c cs s
-context_ends WithinLine piece c cs s = plain_ends false piece c cs s
-context_ends CommentBody piece c cs s = let body = only_body piece (c ∷ cs) s in
+context_ends : (context : Context) (lexeme : Lexeme) (c : ℕ) (cs : List ℕ) → Spells context lexeme (c ∷ cs)
+    → is_line_start (context_after lexeme (c ∷ cs)) ≡ ends_line (c ∷ cs)
+context_ends LineStart lexeme c cs s = plain_ends true lexeme c cs s
+context_ends WithinLine lexeme c cs s = plain_ends false lexeme c cs s
+context_ends CommentBody lexeme c cs s = let body = only_body lexeme (c ∷ cs) s in
     rw body.0 (sym (body_end (c ∷ cs) body.1))
 
--- an empty piece is an empty body, behind which no line begins
-empty_piece : (context : Context) (piece : Piece) → Spells context piece []
-    → (is_line_start context ≡ false) × (is_line_start (context_after piece []) ≡ false)
-empty_piece context piece s = grind arith
+-- an empty lexeme is an empty body, behind which no line begins
+empty_lexeme : (context : Context) (lexeme : Lexeme) → Spells context lexeme []
+    → (is_line_start context ≡ false) × (is_line_start (context_after lexeme []) ≡ false)
+empty_lexeme context lexeme s = grind arith
 
-pub next_begins : (whole : List ℕ) (place : Place) (at : ℕ) (piece : Piece) (n : ℕ)
+pub next_begins : (whole : List ℕ) (place : Place) (at : ℕ) (lexeme : Lexeme) (n : ℕ)
     → is_line_start place.context ≡ begins_line whole at
-    → IsPiece place.context (drop at whole) piece n → is_line_start (context_after piece (take n (drop at whole)))
+    → IsLexeme place.context (drop at whole) lexeme n → is_line_start (context_after lexeme (take n (drop at whole)))
     ≡ begins_line whole (at + n)
-next_begins whole place at piece n here cut =
-    grind (arith, nat_tests, empty_piece, ne_eqb, context_ends, take-add, ends_append)
+next_begins whole place at lexeme n here cut =
+    grind (arith, nat_tests, empty_lexeme, ne_eqb, context_ends, take-add, ends_append)

@@ -12,7 +12,7 @@ use Rattle.kn_lex.specs.Spelling.{Item, plain as plain_item, escaped, joined as 
 use Rattle.kn_lex.specs.Spelling.{items_bytes, IsLiteral}
 use Rattle.kn_lex.specs.Literal.{value_behind, begins_octal, begins_low, inside, literal_value}
 use Rattle.kn_lex.specs.Escapes.{EscapeTable, BeginsOctal, BeginsLow, BeginsOther, octal}
-use Rattle.kn_lex.proofs.Spelled.{both}
+use Rattle.kn_lex.proofs.ScannedLengths.{both}
 use Rattle.kn_lex.proofs.Values.{skipped}
 
 -- white space is counted up to the next other character

@@ -1,7 +1,7 @@
 -- What stands between the tokens of a text.
 use Rattle.std.specs.Prelude.{◌≡◌, ◌⊎◌, ℕ, Bool, true, ◌==◌, List, [], ◌∷◌, ◌++◌, drop}
 use Rattle.kn_lex.specs.Spelling.{is_white_space, is_comment}
-use Rattle.kn_lex.specs.Cutting.{Seen}
+use Rattle.kn_lex.specs.Cutting.{TokenView}
 
 -- a line ends here, or the text
 abbrev pub is_line_end : List ℕ → Bool
@@ -23,7 +23,7 @@ pub record IsGap (text rest : List ℕ) : Type 0 where
   pub skips : Skips text parts rest
 
 -- from this place on white space and comments alone stand before each token and behind the last
-abbrev pub StandApart : List ℕ → ℕ → List Seen → Type 0
+abbrev pub StandApart : List ℕ → ℕ → List TokenView → Type 0
 StandApart text from [] = IsGap (drop from text) []
 StandApart text from (token ∷ tokens) = IsGap (drop from text) (drop token.span.start text)
     × StandApart text token.span.end tokens

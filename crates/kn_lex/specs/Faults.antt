@@ -4,18 +4,18 @@ use Rattle.std.specs.Prelude.{take, drop, slice_get, Option, Some, None}
 use Rattle.kn_base.specs.Decimal.{is_digit, digits_value}
 use Rattle.kn_lex.specs.Bytes.{is_white}
 use Rattle.kn_lex.specs.Spelling.{is_blank}
-use Rattle.kn_lex.specs.Cutting.{start, IsPiece, BeginsNone, Reaches, spent}
+use Rattle.kn_lex.specs.Cutting.{start, IsLexeme, BeginsNone, Reaches, spent}
 use Rattle.kn_lex.specs.declared.token.Sort.TheVariants.{Number as NumberSort}
-use Rattle.kn_lex.specs.declared.piece.Piece.{Piece}
-use Rattle.kn_lex.specs.declared.piece.Piece.TheVariants.{Token}
-use Rattle.kn_lex.specs.declared.piece.Place.{Place}
-use Rattle.kn_lex.specs.declared.piece.Context.{Context}
-use Rattle.kn_lex.specs.declared.piece.Context.TheVariants.{LineStart}
+use Rattle.kn_lex.specs.declared.lexeme.Lexeme.{Lexeme}
+use Rattle.kn_lex.specs.declared.lexeme.Lexeme.TheVariants.{Token}
+use Rattle.kn_lex.specs.declared.lexeme.Place.{Place}
+use Rattle.kn_lex.specs.declared.lexeme.Context.{Context}
+use Rattle.kn_lex.specs.declared.lexeme.Context.TheVariants.{LineStart}
 use Rattle.kn_lex.specs.declared.fault.LexFault.{LexFault}
 use Rattle.kn_lex.specs.declared.fault.LexFault.TheVariants.{NotText, BadString, BadToken, Float, Regex, Number, Blank}
 use Rattle.kn_lex.specs.declared.fault.LexFault.TheVariants.{NoMemory}
 
--- what stands at the front of the bytes where no piece begins
+-- what stands at the front of the bytes where no lexeme begins
 
 -- byte 0, or a byte above 127
 abbrev pub begins_foreign : List ℕ → Bool
@@ -26,7 +26,7 @@ abbrev pub begins_quote : List ℕ → Bool
 begins_quote [] = false
 begins_quote (byte ∷ bytes) = byte == 34
 
--- `&`, which no second one follows where no piece begins
+-- `&`, which no second one follows where no lexeme begins
 abbrev pub begins_ampersand : List ℕ → Bool
 begins_ampersand [] = false
 begins_ampersand (byte ∷ bytes) = byte == 38
@@ -61,20 +61,20 @@ goes_on commented [] = false
 goes_on true (byte ∷ bytes) = goes_on (not (byte == 10)) bytes
 goes_on false (byte ∷ bytes) = not (is_white byte || byte == 35) || goes_on (byte == 35) bytes
 
--- a piece begins here whose byte k is byte 0
+-- a lexeme begins here whose byte k is byte 0
 pub record HoldsZero (context : Context) (left : List ℕ) (k : ℕ) : Type 0 where
-  pub piece : Piece
+  pub lexeme : Lexeme
   pub n : ℕ
-  pub cut : IsPiece context left piece n
+  pub cut : IsLexeme context left lexeme n
   pub here : slice_get (take n left) k ≡ Some 0
 
 -- a run of digits begins here, and what follows it is this
 pub record HasNumber (context : Context) (left : List ℕ) (Is : List ℕ → List ℕ → Type 0) : Type 0 where
   pub n : ℕ
-  pub cut : IsPiece context left (Token NumberSort) n
+  pub cut : IsLexeme context left (Token NumberSort) n
   pub shown : Is (take n left) (drop n left)
 
--- what is left at a place has this fault there, or in the piece that begins there
+-- what is left at a place has this fault there, or in the lexeme that begins there
 abbrev pub Shows : Place → ℕ → List ℕ → LexFault → Type 0
 Shows place at left (NotText p) =
     ((k : ℕ) × (p ≡ at + k) × HoldsZero place.context left k)
@@ -90,16 +90,17 @@ Shows place at left (Number p) =
     (p ≡ at)
     × HasNumber place.context left (λ digits rest. (begins_fraction rest ≡ false) × (number_max < digits_value digits))
 Shows place at left (Blank p) =
-    (p ≡ at) × (place.context ≡ LineStart) × (place.told ≡ true) × (is_blank left ≡ true) × (goes_on false left ≡ true)
+    (p ≡ at) × (place.context ≡ LineStart) × (place.has_token ≡ true) × (is_blank left ≡ true)
+    × (goes_on false left ≡ true)
 Shows place at left NoMemory = ⊥
 
--- the text has this fault: pieces reach a place that shows it
+-- the text has this fault: lexemes reach a place that shows it
 pub record HasFault (text : List ℕ) (fault : LexFault) : Type 0 where
-  pub pieces : List (Piece × ℕ)
+  pub lexemes : List (Lexeme × ℕ)
   pub place : Place
   pub left : List ℕ
-  pub reached : Reaches start text pieces place left
-  pub shown : Shows place (spent pieces) left fault
+  pub reached : Reaches start text lexemes place left
+  pub shown : Shows place (spent lexemes) left fault
 
 abbrev pub IsFaultless : List ℕ → Type 0
 IsFaultless text = (fault : LexFault) → HasFault text fault → ⊥

@@ -4,7 +4,7 @@ pub mod Cutting
 pub mod Faults
 pub mod Literal
 pub mod Scanning
-pub mod Seeing
+pub mod TokenViews
 pub mod TokenFacts
 pub mod Between
 pub mod Finished

@@ -15,11 +15,11 @@ use Rattle.kn_lex.specs.declared.quote.Step.{Step}
 use Rattle.kn_lex.specs.declared.quote.Step.TheVariants.{Fail, Close, Go}
 use Rattle.kn_lex.specs.declared.token.Sort.{Sort}
 use Rattle.kn_lex.specs.declared.token.Sort.TheVariants.{Label, Body, Name, Number, Text, Sign}
-use Rattle.kn_lex.specs.declared.piece.Piece.{Piece}
-use Rattle.kn_lex.specs.declared.piece.Piece.TheVariants.{White, Comment, Token}
-use Rattle.kn_lex.specs.declared.piece.Place.{Place}
-use Rattle.kn_lex.specs.declared.piece.Context.{Context}
-use Rattle.kn_lex.specs.declared.piece.Context.TheVariants.{LineStart, WithinLine, CommentBody}
+use Rattle.kn_lex.specs.declared.lexeme.Lexeme.{Lexeme}
+use Rattle.kn_lex.specs.declared.lexeme.Lexeme.TheVariants.{White, Comment, Token}
+use Rattle.kn_lex.specs.declared.lexeme.Place.{Place}
+use Rattle.kn_lex.specs.declared.lexeme.Context.{Context}
+use Rattle.kn_lex.specs.declared.lexeme.Context.TheVariants.{LineStart, WithinLine, CommentBody}
 use Rattle.kn_lex.specs.declared.fault.LexFault.{LexFault}
 use Rattle.kn_lex.specs.declared.fault.LexFault.TheVariants.{NotText, BadString, BadToken, Float, Regex}
 use Rattle.kn_lex.specs.declared.fault.LexFault.TheVariants.{Number as NumberFault, Blank}
@@ -76,36 +76,36 @@ sign_len [] = None
 sign_len (byte ∷ []) = if is_short_sign byte then Some 1 else None
 sign_len (byte ∷ next ∷ bytes) = if is_long_sign byte next then Some 2 else if is_short_sign byte then Some 1 else None
 
-abbrev pub with_sort : Sort → Option ℕ → Option (Piece × ℕ)
+abbrev pub with_sort : Sort → Option ℕ → Option (Lexeme × ℕ)
 with_sort sort None = None
 with_sort sort (Some n) = Some (Token sort, n)
 
 abbrev pub line_len : List ℕ → ℕ
 line_len bytes = prefix_len (λ byte. not (byte == 10)) bytes
 
-abbrev pub word_piece : Option ℕ → List ℕ → Option (Piece × ℕ)
-word_piece None bytes = Some (Token Name, prefix_len continues_name bytes)
-word_piece (Some n) bytes = Some (Token Label, n)
+abbrev pub word_lexeme : Option ℕ → List ℕ → Option (Lexeme × ℕ)
+word_lexeme None bytes = Some (Token Name, prefix_len continues_name bytes)
+word_lexeme (Some n) bytes = Some (Token Label, n)
 
-unfoldable pub plain_piece : Bool → List ℕ → Option (Piece × ℕ)
-plain_piece first [] = None
-plain_piece first (byte ∷ bytes) =
+unfoldable pub plain_lexeme : Bool → List ℕ → Option (Lexeme × ℕ)
+plain_lexeme first [] = None
+plain_lexeme first (byte ∷ bytes) =
     if is_white byte then Some (White, white_len (byte ∷ bytes))
     else if byte == 35 then Some (Comment, line_len (byte ∷ bytes))
-    else if begins_name byte then word_piece (if first then label_len (byte ∷ bytes) else None) (byte ∷ bytes)
+    else if begins_name byte then word_lexeme (if first then label_len (byte ∷ bytes) else None) (byte ∷ bytes)
     else if is_digit byte then Some (Token Number, prefix_len is_digit (byte ∷ bytes))
     else if byte == 34 then with_sort Text (quote_len Opening (byte ∷ bytes))
     else with_sort Sign (sign_len (byte ∷ bytes))
 
-abbrev pub piece_at : Context → List ℕ → Option (Piece × ℕ)
-piece_at LineStart left = plain_piece true left
-piece_at WithinLine left = plain_piece false left
-piece_at CommentBody left = Some (Token Body, body_len left)
+abbrev pub lexeme_at : Context → List ℕ → Option (Lexeme × ℕ)
+lexeme_at LineStart left = plain_lexeme true left
+lexeme_at WithinLine left = plain_lexeme false left
+lexeme_at CommentBody left = Some (Token Body, body_len left)
 
--- what was found is the label or body that begins here; where nothing was, the piece here is the one within a line
-abbrev pub IsFoundAt : Context → List ℕ → Option (Piece × ℕ) → Type 0
+-- what was found is the label or body that begins here; where nothing was, the lexeme here is the one within a line
+abbrev pub IsFoundAt : Context → List ℕ → Option (Lexeme × ℕ) → Type 0
 IsFoundAt context left found =
-    MatchOption found (piece_at context left ≡ plain_piece false left) (λ p. piece_at context left ≡ Some p)
+    MatchOption found (lexeme_at context left ≡ plain_lexeme false left) (λ p. lexeme_at context left ≡ Some p)
 
 unfoldable pub stuck_fault : ℕ → List ℕ → Option LexFault
 stuck_fault at [] = None
@@ -131,22 +131,22 @@ abbrev pub zero_fault : ℕ → Option ℕ → Option LexFault
 zero_fault at None = None
 zero_fault at (Some k) = Some (NotText (at + k))
 
-abbrev pub is_number : Piece → Bool
+abbrev pub is_number : Lexeme → Bool
 is_number (Token Number) = true
-is_number piece = false
+is_number lexeme = false
 
-abbrev pub piece_fault : ℕ → Piece → List ℕ → List ℕ → Option LexFault
-piece_fault at piece bytes rest =
-    if is_number piece then number_fault at bytes rest else zero_fault at (zero_place bytes)
+abbrev pub lexeme_fault : ℕ → Lexeme → List ℕ → List ℕ → Option LexFault
+lexeme_fault at lexeme bytes rest =
+    if is_number lexeme then number_fault at bytes rest else zero_fault at (zero_place bytes)
 
-abbrev pub fault_by : ℕ → List ℕ → Option (Piece × ℕ) → Option LexFault
+abbrev pub fault_by : ℕ → List ℕ → Option (Lexeme × ℕ) → Option LexFault
 fault_by at left None = stuck_fault at left
-fault_by at left (Some p) = piece_fault at p.0 (take p.1 left) (drop p.1 left)
+fault_by at left (Some p) = lexeme_fault at p.0 (take p.1 left) (drop p.1 left)
 
 abbrev pub is_bad_blank : Place → List ℕ → Bool
-is_bad_blank place left = is_line_start place.context && place.told && is_blank left && goes_on false left
+is_bad_blank place left = is_line_start place.context && place.has_token && is_blank left && goes_on false left
 
 -- the first fault that this place shows
 abbrev pub fault_at : Place → ℕ → List ℕ → Option LexFault
 fault_at place at left =
-    if is_bad_blank place left then Some (Blank at) else fault_by at left (piece_at place.context left)
+    if is_bad_blank place left then Some (Blank at) else fault_by at left (lexeme_at place.context left)

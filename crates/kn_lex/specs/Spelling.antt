@@ -1,4 +1,4 @@
--- Which bytes spell which sort of piece (RFC 2704, section 4; the body of a comment, white space and the
+-- Which bytes spell which sort of lexeme (RFC 2704, section 4; the body of a comment, white space and the
 -- items of a literal are as keynoted chooses).
 use Rattle.std.specs.Prelude.{◌≡◌, ℕ, Bool, true, false, not, ◌&&◌, ◌||◌, ◌==◌, List, [], ◌∷◌, ◌++◌, if◌then◌else◌}
 use Rattle.std.specs.List.{list_all, take_while}
@@ -6,10 +6,10 @@ use Rattle.kn_base.specs.Decimal.{is_digit}
 use Rattle.kn_lex.specs.Bytes.{is_gap, is_white, is_letter, begins_name, continues_name, continues_label, is_short_sign}
 use Rattle.kn_lex.specs.Bytes.{is_long_sign}
 use Rattle.kn_lex.specs.declared.token.Sort.TheVariants.{Label, Body, Name, Number, Text, Sign}
-use Rattle.kn_lex.specs.declared.piece.Piece.{Piece}
-use Rattle.kn_lex.specs.declared.piece.Piece.TheVariants.{White, Comment, Token}
-use Rattle.kn_lex.specs.declared.piece.Context.{Context}
-use Rattle.kn_lex.specs.declared.piece.Context.TheVariants.{LineStart, WithinLine, CommentBody}
+use Rattle.kn_lex.specs.declared.lexeme.Lexeme.{Lexeme}
+use Rattle.kn_lex.specs.declared.lexeme.Lexeme.TheVariants.{White, Comment, Token}
+use Rattle.kn_lex.specs.declared.lexeme.Context.{Context}
+use Rattle.kn_lex.specs.declared.lexeme.Context.TheVariants.{LineStart, WithinLine, CommentBody}
 
 -- the bytes are one of the first kind, and then any number of the second
 abbrev pub is_run : (ℕ → Bool) → (ℕ → Bool) → List ℕ → Bool
@@ -97,7 +97,7 @@ is_sign (byte ∷ next ∷ []) = is_long_sign byte next
 is_sign (byte ∷ next ∷ more ∷ bytes) = false
 
 -- the bytes spell this sort, at the beginning of a line or not
-abbrev pub SpellsPlain : Bool → Piece → List ℕ → Type 0
+abbrev pub SpellsPlain : Bool → Lexeme → List ℕ → Type 0
 SpellsPlain first White bytes = is_white_space bytes ≡ true
 SpellsPlain first Comment bytes = is_comment bytes ≡ true
 SpellsPlain first (Token Label) bytes = (first && is_label bytes) ≡ true
@@ -108,13 +108,13 @@ SpellsPlain first (Token Text) bytes = IsLiteral bytes
 SpellsPlain first (Token Sign) bytes = is_sign bytes ≡ true
 
 -- the bytes spell the body of a comment, which may be empty
-abbrev pub SpellsBody : Piece → List ℕ → Type 0
+abbrev pub SpellsBody : Lexeme → List ℕ → Type 0
 SpellsBody (Token Body) bytes = is_body bytes ≡ true
-SpellsBody piece bytes = ⊥
+SpellsBody lexeme bytes = ⊥
 
 -- the bytes spell this sort where they stand: labels stand at the beginning of a line alone, and behind
 -- the label of a comment nothing but its body is read
-abbrev pub Spells : Context → Piece → List ℕ → Type 0
-Spells LineStart piece bytes = SpellsPlain true piece bytes
-Spells WithinLine piece bytes = SpellsPlain false piece bytes
-Spells CommentBody piece bytes = SpellsBody piece bytes
+abbrev pub Spells : Context → Lexeme → List ℕ → Type 0
+Spells LineStart lexeme bytes = SpellsPlain true lexeme bytes
+Spells WithinLine lexeme bytes = SpellsPlain false lexeme bytes
+Spells CommentBody lexeme bytes = SpellsBody lexeme bytes

@@ -2,7 +2,7 @@
 use Rattle.std.specs.Prelude.{◌≡◌, ℕ, ◌+◌, ◌<◌, ◌≤◌, Bool, true, ◌||◌, ◌==◌, List, [], ◌∷◌, length, take, drop}
 use Rattle.kn_base.specs.Decimal.{digits_value}
 use Rattle.kn_lex.specs.Spelling.{is_label, is_body, is_name, is_number, is_sign, IsLiteral}
-use Rattle.kn_lex.specs.Cutting.{Seen, ends_line}
+use Rattle.kn_lex.specs.Cutting.{TokenView, ends_line}
 use Rattle.kn_lex.specs.Faults.{number_max}
 use Rattle.kn_lex.specs.declared.token.Sort.{Sort}
 use Rattle.kn_lex.specs.declared.token.Sort.TheVariants.{Label, Body, Name, Number, Text, Sign}
@@ -17,7 +17,7 @@ IsSpelled Text bytes = IsLiteral bytes
 IsSpelled Sign bytes = is_sign bytes ≡ true
 
 -- a token has some bytes, which are those of the text at its span and spell its sort
-pub record IsTokenOf (text : List ℕ) (token : Seen) : Type 0 where
+pub record IsTokenOf (text : List ℕ) (token : TokenView) : Type 0 where
   pub some : 0 < length token.text
   pub size : token.span.end ≡ token.span.start + length token.text
   pub within : token.span.end ≤ length text
@@ -25,7 +25,7 @@ pub record IsTokenOf (text : List ℕ) (token : Seen) : Type 0 where
   pub spelled : IsSpelled token.sort token.text
 
 -- the tokens stand in their order from this place on, none over the next
-abbrev pub StandInOrder : ℕ → List Seen → Type 0
+abbrev pub StandInOrder : ℕ → List TokenView → Type 0
 StandInOrder from [] = Unit {0}
 StandInOrder from (token ∷ tokens) = (from ≤ token.span.start) × (token.span.start < token.span.end)
     × StandInOrder token.span.end tokens

@@ -55,6 +55,7 @@ fn escape(rest: &[u8]) -> (Option<u8>, usize)
         b'n' => (Some(b'\n'), 1),
         b'r' => (Some(b'\r'), 1),
         b't' => (Some(b'\t'), 1),
+        // 12 is the form feed.
         b'f' => (Some(12), 1),
         b'\n' | b'\r' => (None, 1 + run_len(Class::White, rest.split_at(1).1)),
         _ if begins_octal(rest) => (Some(octal_value(rest) as u8), 3),

@@ -4,19 +4,19 @@
 mod bytes;
 mod escapes;
 mod fault;
-mod judge;
 pub mod laws;
+mod lexeme;
 mod lexer;
-mod piece;
+mod place_faults;
 mod quote;
 mod scan;
 mod token;
 
 pub use escapes::literal;
 pub use fault::LexFault;
-pub use judge::goes_on;
+pub use lexeme::is_comment_label;
 pub use lexer::tokens;
-pub use piece::is_comment_label;
+pub use place_faults::goes_on;
 pub use quote::{Quote, Step, quote_step};
 pub use scan::{is_blank, is_continuation, line_len};
 pub use token::{Sort, Token, Tokens};

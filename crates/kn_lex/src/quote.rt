@@ -27,6 +27,7 @@ pub enum Step {
     Fail,
     /// The byte is the closing quote.
     Close,
+    /// The literal goes on, and the next byte stands there.
     Go(Quote),
 }
 

@@ -1,12 +1,12 @@
-//! Which piece begins at a place, and how long it is.
+//! Which lexeme begins at a place, and how long it is.
 
 ghost use Rattle.std.specs.Prelude.{◌≡◌, ◌≤◌, ◌<◌, false, Some, length, IfSome};
 ghost use Rattle.kn_lex.specs.Spelling.{is_blank, is_continuation};
 ghost use Rattle.kn_lex.specs.Scanning.{white_len, line_len, label_len, colon_len, body_len, sign_len};
-ghost use Rattle.kn_lex.specs.Scanning.{with_sort, plain_piece, piece_at, IsFoundAt};
+ghost use Rattle.kn_lex.specs.Scanning.{with_sort, plain_lexeme, lexeme_at, IsFoundAt};
 
 use crate::bytes::{Class, Kind, has_at, is_letter, is_long_sign, is_short_sign, kind_of, run_len};
-use crate::piece::{Context, Piece};
+use crate::lexeme::{Context, Lexeme};
 use crate::quote::quote_len;
 use crate::token::Sort;
 use memchr::memchr;
@@ -114,58 +114,58 @@ fn sign_len(rest: &[u8]) -> Option<usize>
     }
 }
 
-fn with_sort(sort: Sort, len: Option<usize>) -> Option<(Piece, usize)>
+fn with_sort(sort: Sort, len: Option<usize>) -> Option<(Lexeme, usize)>
     ensures { result ≡ with_sort sort len }
 {
     match len {
-        Some(len) => Some((Piece::Token(sort), len)),
+        Some(len) => Some((Lexeme::Token(sort), len)),
         None => None,
     }
 }
 
-/// The piece that begins here within a line.
+/// The lexeme that begins here within a line.
 #[inline(always)]
-#[tactic(auto, using(crate::proofs::Pieces::plain_piece_by_kind))]
-fn plain_piece(rest: &[u8]) -> Option<(Piece, usize)>
+#[tactic(auto, using(crate::proofs::Lexemes::plain_lexeme_by_kind))]
+fn plain_lexeme(rest: &[u8]) -> Option<(Lexeme, usize)>
     requires { 0 < length rest.now }
-    ensures piece { result ≡ plain_piece false rest.now }
+    ensures lexeme { result ≡ plain_lexeme false rest.now }
     ensures within { IfSome result (λ p. p.1 ≤ length rest.now) }
 {
     match kind_of(rest[0]) {
-        Kind::Space => Some((Piece::White, white_len(rest))),
-        Kind::Hash => Some((Piece::Comment, line_len(rest))),
-        Kind::Word => Some((Piece::Token(Sort::Name), run_len(Class::Name, rest))),
-        Kind::Numeral => Some((Piece::Token(Sort::Number), run_len(Class::Digit, rest))),
+        Kind::Space => Some((Lexeme::White, white_len(rest))),
+        Kind::Hash => Some((Lexeme::Comment, line_len(rest))),
+        Kind::Word => Some((Lexeme::Token(Sort::Name), run_len(Class::Name, rest))),
+        Kind::Numeral => Some((Lexeme::Token(Sort::Number), run_len(Class::Digit, rest))),
         Kind::Quote => with_sort(Sort::Text, quote_len(rest)),
-        Kind::Lone => Some((Piece::Token(Sort::Sign), 1)),
+        Kind::Lone => Some((Lexeme::Token(Sort::Sign), 1)),
         Kind::Other => with_sort(Sort::Sign, sign_len(rest)),
     }
 }
 
 /// The label or body that begins here. None begins within a line.
 #[inline(always)]
-#[tactic(auto, using(crate::proofs::Pieces::label_here, crate::proofs::Pieces::no_label))]
-pub(crate) fn starting_piece(context: Context, rest: &[u8]) -> Option<(Piece, usize)>
-    ensures piece { IsFoundAt context rest.now result }
+#[tactic(auto, using(crate::proofs::Lexemes::label_here, crate::proofs::Lexemes::no_label))]
+pub(crate) fn starting_lexeme(context: Context, rest: &[u8]) -> Option<(Lexeme, usize)>
+    ensures lexeme { IsFoundAt context rest.now result }
     ensures within { IfSome result (λ p. p.1 ≤ length rest.now) }
 {
     match context {
         Context::LineStart => with_sort(Sort::Label, label_len(rest)),
         Context::WithinLine => None,
-        Context::CommentBody => Some((Piece::Token(Sort::Body), body_len(rest))),
+        Context::CommentBody => Some((Lexeme::Token(Sort::Body), body_len(rest))),
     }
 }
 
-/// The piece that begins here, with its length: the label or body that was found, or else one as within a line.
+/// The lexeme that begins here, with its length: the label or body that was found, or else one as within a line.
 #[inline(always)]
-pub(crate) fn piece_at(found: Option<(Piece, usize)>, rest: &[u8]) -> Option<(Piece, usize)>
+pub(crate) fn lexeme_at(found: Option<(Lexeme, usize)>, rest: &[u8]) -> Option<(Lexeme, usize)>
     requires some { 0 < length rest.now }
     requires within { IfSome found (λ p. p.1 ≤ length rest.now) }
-    ensures piece { (context : Context) → IsFoundAt context rest.now found → result ≡ piece_at context rest.now }
+    ensures lexeme { (context : Context) → IsFoundAt context rest.now found → result ≡ lexeme_at context rest.now }
     ensures within { IfSome result (λ p. p.1 ≤ length rest.now) }
 {
     match found {
         Some(found) => Some(found),
-        None => plain_piece(rest),
+        None => plain_lexeme(rest),
     }
 }

@@ -43,23 +43,24 @@ pub struct Tokens<'a> {
 
 impl<'a> Model for Tokens<'a> {
     ghost use Rattle.std.specs.Prelude.{List, map};
-    ghost use Rattle.kn_lex.specs.Cutting.{Seen};
-    ghost use Rattle.kn_lex.specs.Seeing.{seen};
+    ghost use Rattle.kn_lex.specs.Cutting.{TokenView};
+    ghost use Rattle.kn_lex.specs.TokenViews.{token_view};
 
-    ghost Value = { List Seen };
+    ghost Value = { List TokenView };
 
-    ghost view = { λ tokens. map seen tokens.list };
+    ghost view = { λ tokens. map token_view tokens.list };
 }
 
 impl<'a> Tokens<'a> {
-    ghost use Rattle.kn_lex.specs.Seeing.{seen};
+    ghost use Rattle.kn_lex.specs.TokenViews.{token_view};
 
     pub(crate) fn of(list: List<Token<'a>>) -> Tokens<'a>
-        ensures { result ≡ map seen list.entry }
+        ensures { result ≡ map token_view list.entry }
     {
         Tokens { list }
     }
 
+    /// How many tokens there are.
     pub fn len(&self) -> u32
         ensures { result ≡ length self.now }
     {
@@ -68,7 +69,7 @@ impl<'a> Tokens<'a> {
 
     /// The token at place `i`, counted from 0, or None past the end.
     pub fn get(&self, i: u32) -> Option<&Token<'a>>
-        ensures { option_map seen (option_copied result) ≡ slice_get self.now i }
+        ensures { option_map token_view (option_copied result) ≡ slice_get self.now i }
     {
         self.list.get(i)
     }

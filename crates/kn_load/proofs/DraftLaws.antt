@@ -7,7 +7,7 @@ use Rattle.std.proofs.lemmas.List.{take-map, drop-map, drop-take, take-append-dr
 use Rattle.kn_base.specs.declared.span.Span.{Span}
 use Rattle.kn_files.specs.Pieces.{spans_of, bytes_at, pieces_of}
 use Rattle.kn_load.specs.declared.drafts.Draft.{Draft}
-use Rattle.kn_load.specs.declared.readings.Readings.{Readings}
+use Rattle.kn_load.specs.declared.read_texts.ReadTexts.{ReadTexts}
 use Rattle.kn_load.specs.Drafting.{IsDraftOf, AreReadings}
 
 -- drafts at the places of some spans are the drafts of the texts there
@@ -26,7 +26,7 @@ drafts_of_spans text_at (s ∷ spans) (d ∷ drafts) long each =
 
 -- these are the readings of the texts from place n up to another, which stand between those in front of them and those
 -- behind
-pub record IsBatch (all : List (List ℕ)) (n to : ℕ) (readings : Readings) : Type 0 where
+pub record IsBatch (all : List (List ℕ)) (n to : ℕ) (readings : ReadTexts) : Type 0 where
   pub texts : List (List ℕ)
   pub are : AreReadings texts readings
   pub upto : take n all ++ texts ≡ take to all
@@ -40,7 +40,7 @@ from_place [] (suc n) (suc to) order = refl
 from_place (text ∷ texts) (suc n) (suc to) order =
     ap (λ (l : List (List ℕ)). text ∷ l) (from_place texts n to (omega (arith, order)))
 
-pub batch_is : (file : List ℕ) (spans given : List Span) (n to : ℕ) (readings : Readings) → spans ≡ given
+pub batch_is : (file : List ℕ) (spans given : List Span) (n to : ℕ) (readings : ReadTexts) → spans ≡ given
     → given ≡ spans_of file → n < to → to ≤ length given
     → AreReadings (map (bytes_at file) (take (to - n) (drop n spans))) readings → IsBatch (pieces_of file) n to readings
 batch_is file spans given n to readings same is some end are =

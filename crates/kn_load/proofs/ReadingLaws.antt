@@ -10,7 +10,7 @@ use Rattle.kn_history.specs.declared.fault.StoreFault.{StoreFault}
 use Rattle.kn_history.specs.Loading.{IsLoadable}
 use Rattle.kn_registry.specs.Passes.{PassSeen, IsSoundPass, RefusesOne}
 use Rattle.kn_load.specs.declared.drafts.Draft.{Draft}
-use Rattle.kn_load.specs.declared.readings.Readings.{Readings}
+use Rattle.kn_load.specs.declared.read_texts.ReadTexts.{ReadTexts}
 use Rattle.kn_load.specs.declared.fault.LoadFault.{LoadFault}
 use Rattle.kn_load.specs.declared.fault.LoadFault.TheVariants as L
 use Rattle.kn_load.specs.Drafting.{IsDraftOf, IsFirstFaulty, AreReadings}
@@ -18,18 +18,18 @@ use Rattle.kn_load.specs.Loaded.{IsLoaded, StopsLoading, refused_at}
 use Rattle.kn_load.proofs.Loaded.{refusal_stops, fault_stops}
 
 -- These drafts are left of those of some texts, and of the texts before them these are the readings.
-pub record AreLeft (texts : List (List ℕ)) (readings : Readings) (drafts : List Draft) : Type 0 where
+pub record AreLeft (texts : List (List ℕ)) (readings : ReadTexts) (drafts : List Draft) : Type 0 where
   pub front : List (List ℕ)
   pub left : List (List ℕ)
   pub cut : texts ≡ front ++ left
   pub are : AreReadings front readings
   pub drafts_are : AllZip IsDraftOf left drafts
 
-pub all_left : (texts : List (List ℕ)) (readings : Readings) (drafts : List Draft) → AreReadings [] readings
+pub all_left : (texts : List (List ℕ)) (readings : ReadTexts) (drafts : List Draft) → AreReadings [] readings
     → AllZip IsDraftOf texts drafts → AreLeft texts readings drafts
 all_left texts readings drafts none all = record { front = []; left = texts; cut = refl; are = none; drafts_are = all }
 
-pub none_left : (texts : List (List ℕ)) (readings : Readings) → AreLeft texts readings [] → AreReadings texts readings
+pub none_left : (texts : List (List ℕ)) (readings : ReadTexts) → AreLeft texts readings [] → AreReadings texts readings
 none_left texts readings so_far = by so_far.left so_far.cut so_far.drafts_are
   where
     by : (left : List (List ℕ)) → texts ≡ so_far.front ++ left → AllZip IsDraftOf left [] → AreReadings texts readings
@@ -38,14 +38,14 @@ none_left texts readings so_far = by so_far.left so_far.cut so_far.drafts_are
     by (text ∷ left) cut none = absurd none
 
 -- the first of the drafts that are left is that of this text
-pub record IsNext (texts : List (List ℕ)) (readings : Readings) (draft : Draft) (drafts : List Draft) : Type 0 where
+pub record IsNext (texts : List (List ℕ)) (readings : ReadTexts) (draft : Draft) (drafts : List Draft) : Type 0 where
   pub front : List (List ℕ)
   pub text : List ℕ
   pub are : AreReadings front readings
   pub of_text : IsDraftOf text draft
-  pub more : (longer : Readings) → AreReadings (front ++ text ∷ []) longer → AreLeft texts longer drafts
+  pub more : (longer : ReadTexts) → AreReadings (front ++ text ∷ []) longer → AreLeft texts longer drafts
 
-pub next_left : (texts : List (List ℕ)) (readings : Readings) (draft : Draft) (drafts : List Draft)
+pub next_left : (texts : List (List ℕ)) (readings : ReadTexts) (draft : Draft) (drafts : List Draft)
     → AreLeft texts readings (draft ∷ drafts) → IsNext texts readings draft drafts
 next_left texts readings draft drafts so_far = by so_far.left so_far.cut so_far.drafts_are
   where
@@ -67,23 +67,25 @@ next_left texts readings draft drafts so_far = by so_far.left so_far.cut so_far.
       };
     }
 
-module _ (texts : List (List ℕ)) (readings : Readings) (are : AreReadings texts readings) where
+module _ (texts : List (List ℕ)) (readings : ReadTexts) (are : AreReadings texts readings) where
   -- where none has a fault, all are read
-  pub all_read : readings.fault ≡ None → readings.readies.items ≡ texts
+  pub all_read : readings.fault ≡ None → readings.ready_texts.items ≡ texts
   all_read none =
       let ends : are.rest ≡ [] =
       subst (λ (o : Option ReadFault). MatchOption o (are.rest ≡ []) (λ fault. IsFirstFaulty are.rest fault)) none
       are.ends in
-      sym (are.cut ∙ ap (λ (l : List (List ℕ)). readings.readies.items ++ l) ends ∙ append-nil readings.readies.items)
+      sym (are.cut ∙ ap (λ (l : List (List ℕ)). readings.ready_texts.items ++ l) ends
+      ∙ append-nil readings.ready_texts.items)
 
-  pub read_within : length readings.readies.items + length are.rest ≡ length texts
-  read_within = sym (ap length are.cut ∙ length-append readings.readies.items are.rest)
+  pub read_within : length readings.ready_texts.items + length are.rest ≡ length texts
+  read_within = sym (ap length are.cut ∙ length-append readings.ready_texts.items are.rest)
 
   -- where one has, it is behind them
-  pub fault_within : (fault : ReadFault) → readings.fault ≡ Some fault → length readings.readies.items < length texts
+  pub fault_within : (fault : ReadFault) → readings.fault ≡ Some fault
+      → length readings.ready_texts.items < length texts
   fault_within fault some = by are.rest refl
     where
-      by : (rest : List (List ℕ)) → are.rest ≡ rest → length readings.readies.items < length texts
+      by : (rest : List (List ℕ)) → are.rest ≡ rest → length readings.ready_texts.items < length texts
       by [] is = absurd
           (subst (λ (l : List (List ℕ)). IsFirstFaulty l fault) is
           (subst (λ (o : Option ReadFault). MatchOption o (are.rest ≡ []) (λ why. IsFirstFaulty are.rest why)) some
@@ -91,9 +93,9 @@ module _ (texts : List (List ℕ)) (readings : Readings) (are : AreReadings text
       by (text ∷ rest) is = let all = read_within in let many = ap length is in omega (arith, all, many)
 
   module _ (front rest : List (List ℕ)) where
-    cut_there : front ++ texts ++ rest ≡ front ++ readings.readies.items ++ (are.rest ++ rest)
+    cut_there : front ++ texts ++ rest ≡ front ++ readings.ready_texts.items ++ (are.rest ++ rest)
     cut_there = ap (λ (l : List (List ℕ)). front ++ l ++ rest) are.cut
-        ∙ regrouped front readings.readies.items are.rest rest
+        ∙ regrouped front readings.ready_texts.items are.rest rest
       where
         regrouped : (a b c d : List (List ℕ)) → a ++ (b ++ c) ++ d ≡ a ++ b ++ (c ++ d)
         regrouped a b c d = simp append_assoc
@@ -101,20 +103,20 @@ module _ (texts : List (List ℕ)) (readings : Readings) (are : AreReadings text
     -- what a text among them is refused for stops loading
     pub refused_there : (registry : TableId) (v w : PassSeen) → IsLoaded front registry v → IsSoundPass w
         → (before place : ℕ) (refusal : StoreFault) → before ≡ length front →
-        RefusesOne v w readings.readies.items place refusal
+        RefusesOne v w readings.ready_texts.items place refusal
         → StopsLoading (front ++ texts ++ rest) (refused_at (before + place + 1) refusal)
     refused_there registry v w l sound before place refusal at refused =
         subst (λ (k : ℕ). StopsLoading (front ++ texts ++ rest) (refused_at (k + place + 1) refusal)) (sym at)
         (subst (λ (all : List (List ℕ)). StopsLoading all (refused_at (length front + place + 1) refusal))
         (sym cut_there)
-        (refusal_stops front readings.readies.items registry v w l sound (are.rest ++ rest) place are.reads refusal
+        (refusal_stops front readings.ready_texts.items registry v w l sound (are.rest ++ rest) place are.reads refusal
         refused))
 
     -- and so does the fault of the text behind them, once they are loaded
-    pub faulty_there : IsLoadable (front ++ readings.readies.items)
+    pub faulty_there : IsLoadable (front ++ readings.ready_texts.items)
         → (before : ℕ) (fault : ReadFault) (stop : LoadFault) → before ≡ length front → readings.fault ≡ Some fault →
         MatchOption (fault_number fault) (stop ≡ L.NoMemory)
-        (λ _. stop ≡ L.Faulty (before + length readings.readies.items + 1) fault)
+        (λ _. stop ≡ L.Faulty (before + length readings.ready_texts.items + 1) fault)
         → StopsLoading (front ++ texts ++ rest) stop
     faulty_there loadable before fault stop at some is =
         subst (λ (all : List (List ℕ)). StopsLoading all stop) (sym cut_there)
@@ -123,11 +125,13 @@ module _ (texts : List (List ℕ)) (readings : Readings) (are : AreReadings text
         are.ends))
       where
         by : (behind : List (List ℕ)) → IsFirstFaulty behind fault
-            → StopsLoading (front ++ readings.readies.items ++ (behind ++ rest)) stop
+            → StopsLoading (front ++ readings.ready_texts.items ++ (behind ++ rest)) stop
         by [] none = absurd none
         by (text ∷ behind) faulty =
-            let both = length-append front readings.readies.items in
-            let place : before + length readings.readies.items + 1 ≡ length (front ++ readings.readies.items) + 1 =
+            let both = length-append front readings.ready_texts.items in
+            let place : before + length readings.ready_texts.items + 1 ≡ length (front ++ readings.ready_texts.items)
+            + 1 =
             omega (arith, both, at) in
-            fault_stops (front ++ readings.readies.items) (behind ++ rest) text (before + length readings.readies.items
+            fault_stops (front ++ readings.ready_texts.items) (behind ++ rest) text
+            (before + length readings.ready_texts.items
             + 1) fault stop loadable place faulty is

@@ -5,7 +5,7 @@ use Rattle.kn_fields.specs.declared.fault.ReadFault.TheVariants.{NoMemory}
 use Rattle.kn_assert.specs.Reading.{assertion_of, fault_of}
 use Rattle.kn_load.specs.declared.drafts.Draft.{Draft}
 use Rattle.kn_load.specs.declared.drafts.Draft.TheVariants.{Unread, Read, Faulty}
-use Rattle.kn_load.specs.declared.readings.Readings.{Readings}
+use Rattle.kn_load.specs.declared.read_texts.ReadTexts.{ReadTexts}
 
 -- the text has this fault, or memory ran out
 abbrev pub IsFaultyFor : List ℕ → ReadFault → Type 0
@@ -24,8 +24,8 @@ IsFirstFaulty (text ∷ rest) fault = IsFaultyFor text fault
 
 -- These are the readings of the texts up to the first that has none, and why that one has none; where all have one,
 -- there are no texts behind.
-pub record AreReadings (texts : List (List ℕ)) (readings : Readings) : Type 0 where
-  pub reads : All (λ text. IsSome (assertion_of text)) readings.readies.items
+pub record AreReadings (texts : List (List ℕ)) (readings : ReadTexts) : Type 0 where
+  pub reads : All (λ text. IsSome (assertion_of text)) readings.ready_texts.items
   pub rest : List (List ℕ)
-  pub cut : texts ≡ readings.readies.items ++ rest
+  pub cut : texts ≡ readings.ready_texts.items ++ rest
   pub ends : MatchOption readings.fault (rest ≡ []) (λ fault. IsFirstFaulty rest fault)

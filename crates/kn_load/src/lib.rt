@@ -5,7 +5,7 @@
 mod drafts;
 mod fault;
 mod load;
-mod readings;
+mod read_texts;
 
 pub use fault::LoadFault;
 pub use load::{load_file, load_texts};

@@ -10,7 +10,7 @@ ghost use Rattle.kn_load.specs.declared.fault.LoadFault.TheVariants as L;
 
 use crate::drafts::read_drafts;
 use crate::fault::LoadFault;
-use crate::readings::{Readings, read_texts, readings_of};
+use crate::read_texts::{ReadTexts, read_texts, readings_of};
 use kn_assert::ReadFault;
 use kn_base::limits::{FILE_BYTES, LIVE_BYTES, LIVE_CREDENTIALS};
 use kn_base::{List, Octets, Span};
@@ -42,8 +42,8 @@ pub fn load_file<R: Threads + Wait + Sync>(
     }
 }
 
-/// A registry with these assertions, added by its root pass, caller 0, in their order. What stops loading is told as
-/// for a file.
+/// A registry with these assertions, added by its root pass, caller 0, in their order. What stops loading is reported
+/// as for a file.
 pub fn load_texts<R: Wait>(
     rt: &R,
     alloc: Global,
@@ -119,7 +119,7 @@ fn add_readings<R: Wait>(
     rt: &R,
     registry: &Registry,
     root: &mut Pass,
-    readings: Readings,
+    readings: ReadTexts,
     before: u32,
 ) -> Result<(), LoadFault>
     requires root { IsUnsplitRoot registry.now root.old }
@@ -129,9 +129,9 @@ fn add_readings<R: Wait>(
     ensures stopped { (front texts rest : Of (Of ℕ)) → AreReadings texts readings → IsLoaded front registry.now root.old
         → before ≡ length front → IfErr result (λ fault. StopsLoading (front ++ texts ++ rest) fault) }
 {
-    let Readings { readies, fault } = readings;
-    let read = before + readies.len() as u32;
-    match registry.add_all(rt, root, readies) {
+    let ReadTexts { ready_texts, fault } = readings;
+    let read = before + ready_texts.len() as u32;
+    match registry.add_all(rt, root, ready_texts) {
         Ok(()) => {}
         Err((place, refusal)) => return Err(stop_by_refusal(before, place, refusal)),
     }

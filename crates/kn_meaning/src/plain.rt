@@ -31,7 +31,6 @@ pub struct Stated {
 }
 
 /// The level that a table first gives a name, and 0 where it has none.
-/// Slow, and only there to be compared with.
 pub fn level_of(table: &[Level], name: &[u8]) -> u8
     ensures { result ≡ level_in table.now name.now }
 {
@@ -44,7 +43,6 @@ pub fn level_of(table: &[Level], name: &[u8]) -> u8
 }
 
 /// How many of these levels reach `level`.
-/// Slow, and only there to be compared with.
 pub fn reaching(level: u8, levels: &[u8]) -> usize
     ensures { result ≡ T.reaching level levels.now }
 {
@@ -58,7 +56,7 @@ pub fn reaching(level: u8, levels: &[u8]) -> usize
 }
 
 /// The greatest level up to `top` that at least `need` of these reach, and 0 where there is none.
-/// Slow, and only there to be compared with.
+/// Tries each level downwards from `top`, and counts anew for each.
 pub fn gate_level(top: u8, need: usize, levels: &[u8]) -> u8
     ensures { result ≡ T.threshold top need levels.now }
 {
@@ -73,7 +71,6 @@ pub fn gate_level(top: u8, need: usize, levels: &[u8]) -> u8
 }
 
 /// The level of a formula by a walk over it.
-/// Slow, and only there to be compared with.
 #[cycle(formula)]
 #[tactic(auto, using(crate::proofs::Walks::formula_levels))]
 pub fn formula_level(
@@ -102,7 +99,6 @@ pub fn formula_level(
 }
 
 /// The levels of these formulas, in their order.
-/// Slow, and only there to be compared with.
 #[cycle(formula)]
 pub fn part_levels(
     alloc: Global,
@@ -120,7 +116,7 @@ pub fn part_levels(
 }
 
 /// What an assertion is worth under these levels.
-/// Slow, and only there to be compared with.
+/// That is the level of its licensees, or its ceiling where that is lower; 0 where it has no licensees.
 pub fn worth(alloc: Global, top: u8, table: &[Level], stated: &Stated) -> Result<u8, NoMemory>
     ensures { IfOk result (λ worth. worth ≡ E.worth top (level_in table.now) (statement_in stated.now)) }
 {
@@ -134,7 +130,6 @@ pub fn worth(alloc: Global, top: u8, table: &[Level], stated: &Stated) -> Result
 }
 
 /// The highest worth among the assertions of which `name` is authorizer, and 0 where there is none.
-/// Slow, and only there to be compared with.
 pub fn highest_worth(
     alloc: Global,
     top: u8,
@@ -155,7 +150,6 @@ pub fn highest_worth(
 }
 
 /// Whether a name is one of these.
-/// Slow, and only there to be compared with.
 pub fn is_among(name: &[u8], names: &[Octets]) -> bool
     ensures { result ≡ list_any (bytes_eq name.now) names.now }
 {
@@ -168,7 +162,7 @@ pub fn is_among(name: &[u8], names: &[Octets]) -> bool
 }
 
 /// A principal's level after one more round of the equations.
-/// Slow, and only there to be compared with.
+/// That is `top` for a requester, and else the highest worth.
 pub fn round_level(
     alloc: Global,
     top: u8,
@@ -187,7 +181,7 @@ pub fn round_level(
 }
 
 /// The levels of a table after one more round of the equations.
-/// Slow, and only there to be compared with.
+/// Each is computed from the levels of the round before.
 pub fn next_levels(
     alloc: Global,
     top: u8,
@@ -234,7 +228,7 @@ fn push_level(
 }
 
 /// Requesters have the top, and authorizers 0.
-/// Slow, and only there to be compared with.
+/// The requesters stand in front.
 pub fn first_levels(
     alloc: Global,
     top: u8,
@@ -254,7 +248,7 @@ pub fn first_levels(
 }
 
 /// The levels after as many rounds as there are entries times `top`.
-/// Slow, and only there to be compared with.
+/// Behind that many rounds no level rises any more.
 pub fn least_levels(
     alloc: Global,
     top: u8,

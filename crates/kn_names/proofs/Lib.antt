@@ -1,2 +1,2 @@
-pub mod Placed
-pub mod Chained
+pub mod NameBlocks
+pub mod Chains

@@ -2,7 +2,7 @@
 use Rattle.std.proofs.Common.{◌≡◌, ℕ, ◌+◌, List, [], ◌++◌, drop, Option, Some, None, refl, sym, ◌∙◌, ap, append_assoc}
 use Rattle.std.proofs.Common.{append-nil}
 use Rattle.std.proofs.Math.Seq.{drop-drop}
-use Rattle.kn_outside.specs.Told.{more, before}
+use Rattle.kn_outside.specs.SpecifiedBytes.{more, before}
 
 -- what is left of a list after two parts
 pub left_after : (xs : List ℕ) (at n : ℕ) → drop (at + n) xs ≡ drop n (drop at xs)

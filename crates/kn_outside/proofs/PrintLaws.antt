@@ -4,7 +4,7 @@ use Rattle.std.proofs.Common.{◌∙◌, subst, length-append, arith, Option}
 use Rattle.std.proofs.lemmas.List.{take-append-le}
 use Rattle.std.proofs.Math.Seq.{take-add, take-append-add}
 use Rattle.kn_outside.specs.Seen.{LinkSeen}
-use Rattle.kn_outside.specs.Told.{more}
+use Rattle.kn_outside.specs.SpecifiedBytes.{more}
 use Rattle.kn_outside.specs.Faults.{Rose}
 use Rattle.kn_outside.specs.Printing.{Writes, Prints}
 use Rattle.kn_outside.specs.Reading.{Reads}

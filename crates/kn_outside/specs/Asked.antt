@@ -6,14 +6,13 @@ use Rattle.kn_outside.specs.Seen.{FilesSeen}
 use Rattle.kn_outside.specs.declared.files.FileFault.{FileFault}
 use Rattle.kn_outside.specs.declared.files.FileFault.TheVariants.{Failed, TooLarge, NoMemory}
 
--- the file of this name has these bytes, where contents are told
+-- the file of this name has these bytes, where contents are specified
 abbrev pub TellsContent : List ℕ → FilesSeen → List ℕ → Type 0
 TellsContent name f bytes = IfSome f.content (λ content_of. content_of name ≡ Some bytes)
 
--- the file of this name has more than FILE_BYTES, where contents are told
+-- the file of this name has more than FILE_BYTES, where contents are specified
 abbrev pub TellsTooLarge : List ℕ → FilesSeen → Type 0
-TellsTooLarge name f =
-    IfSome f.content (λ content_of. IsSomeAnd (content_of name) (λ bytes. FILE_BYTES < length bytes))
+TellsTooLarge name f = IfSome f.content (λ content_of. IsSomeAnd (content_of name) (λ bytes. FILE_BYTES < length bytes))
 
 -- files of these names were asked for, and nothing else changed
 abbrev pub HasAsked : List (List ℕ) → FilesSeen → FilesSeen → Type 0

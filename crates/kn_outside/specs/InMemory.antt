@@ -4,7 +4,7 @@ use Rattle.std.specs.Prelude.{slice_index, Option, Some, None, Result, Ok, Err, 
 use Rattle.std.specs.List.{list_any}
 use Rattle.std.specs.Str.{bytes_eq}
 use Rattle.kn_base.specs.declared.limits.TheConstants.{FILE_BYTES}
-use Rattle.kn_outside.specs.declared.entry.FileEntry.{FileEntry}
+use Rattle.kn_outside.specs.declared.file_entry.FileEntry.{FileEntry}
 use Rattle.kn_outside.specs.declared.files.FileFault.{FileFault}
 use Rattle.kn_outside.specs.Faults.{raised}
 use Rattle.kn_outside.specs.declared.files.FileFault.TheVariants.{Failed, TooLarge, NoMemory}

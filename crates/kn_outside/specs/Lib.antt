@@ -4,4 +4,4 @@ pub mod InMemory
 pub mod Printing
 pub mod Reading
 pub mod Seen
-pub mod Told
+pub mod SpecifiedBytes

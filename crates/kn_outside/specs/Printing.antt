@@ -1,7 +1,7 @@
 -- What printing a text changes.
 use Rattle.std.specs.Prelude.{ℕ, ◌≡◌, ◌<◌, ◌≤◌, Bool, true, false, List, length, take, Result, Ok, Err}
 use Rattle.kn_outside.specs.Seen.{LinkSeen}
-use Rattle.kn_outside.specs.Told.{more}
+use Rattle.kn_outside.specs.SpecifiedBytes.{more}
 use Rattle.kn_outside.specs.Faults.{Rose}
 
 -- whether a text was written whole

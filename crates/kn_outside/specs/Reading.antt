@@ -1,7 +1,7 @@
 -- What reading changes.
 use Rattle.std.specs.Prelude.{ℕ, ◌≡◌, List}
 use Rattle.kn_outside.specs.Seen.{LinkSeen}
-use Rattle.kn_outside.specs.Told.{more, before}
+use Rattle.kn_outside.specs.SpecifiedBytes.{more, before}
 use Rattle.kn_outside.specs.Faults.{Rose}
 
 -- these bytes, which are the next of the input, were read, and nothing else changed

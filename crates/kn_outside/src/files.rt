@@ -12,6 +12,7 @@ pub enum FileFault {
     Failed,
     /// It holds more than `FILE_BYTES`.
     TooLarge,
+    /// Out of memory for its bytes.
     NoMemory,
 }
 

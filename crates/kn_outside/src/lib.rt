@@ -1,19 +1,19 @@
 //! The outside as contracts see it: links, sinks, files and gates as traits, and fakes in memory.
 #![tactic(auto)]
 
-mod entry;
 mod failed;
+mod failing;
+mod file_entry;
 mod files;
 mod gate;
 mod link;
 mod mem_files;
 mod mem_link;
 mod mem_sink;
-mod numbered;
 mod sink;
 
-pub use entry::FileEntry;
 pub use failed::Failed;
+pub use file_entry::FileEntry;
 pub use files::{FileFault, Files};
 pub use gate::{Gate, Passing};
 pub use link::Link;

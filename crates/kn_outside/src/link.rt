@@ -1,4 +1,4 @@
-//! Connections.
+//! What a connection is served over: an input that is read, and an output that is written.
 ghost use Rattle.std.specs.Prelude.{◌≡◌, ◌<◌, ◌≤◌, [], take, drop, length, IfOk, IfSome, OnErr};
 ghost use Rattle.kn_outside.specs.Faults.{Rose};
 ghost use Rattle.kn_outside.specs.Reading.{Reads};

@@ -4,9 +4,9 @@ ghost use Rattle.std.specs.Prelude.{IfOk, IfSome, IsSomeAnd, OnOk, OnErr};
 ghost use Rattle.std.specs.Option.{option_copied};
 ghost use Rattle.kn_outside.specs.InMemory.{IsAnswer, answer_of, asked_for, content_of, files_after, next_answer};
 
-use crate::entry::FileEntry;
+use crate::failing::fails;
+use crate::file_entry::FileEntry;
 use crate::files::{FileFault, Files};
-use crate::numbered::fails;
 use kn_base::limits::FILE_BYTES;
 use kn_base::{List, NoMemory, Octets};
 use std::alloc::Global;
@@ -103,7 +103,7 @@ impl MemFiles {
             return Err(FileFault::Failed);
         }
         match find(self.entries.as_slice(), name) {
-            Some(content) => copied(self.alloc, content),
+            Some(content) => copy_content(self.alloc, content),
             None => Err(FileFault::Failed),
         }
     }
@@ -134,7 +134,7 @@ fn find<'a>(entries: &'a [FileEntry], name: &[u8]) -> Option<&'a Octets>
     None
 }
 
-fn copied(alloc: Global, content: &Octets) -> Result<Octets, FileFault>
+fn copy_content(alloc: Global, content: &Octets) -> Result<Octets, FileFault>
     ensures { IsAnswer (answer_of (Some content.now)) result }
 {
     if content.len() > FILE_BYTES {

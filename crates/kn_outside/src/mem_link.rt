@@ -7,8 +7,8 @@ ghost use Rattle.kn_outside.specs.InMemory.{link_after_write, link_after_failed_
 ghost use Rattle.kn_outside.specs.InMemory.{link_after_read, link_after_failed_read};
 
 use crate::failed::Failed;
+use crate::failing::fails;
 use crate::link::Link;
-use crate::numbered::fails;
 use crate::sink::Sink;
 use kn_base::{List, Octets};
 use std::alloc::Global;
@@ -69,6 +69,7 @@ impl MemLink {
         }
     }
 
+    /// All bytes that were written to it, the first at the front.
     pub fn written(&self) -> &[u8]
         ensures { result.now ≡ self.now.written }
     {

@@ -5,7 +5,7 @@ ghost use Rattle.kn_outside.specs.InMemory.{is_failing, sink_after_write, sink_a
 ghost use Rattle.kn_outside.specs.Faults.{raised, Rose};
 
 use crate::failed::Failed;
-use crate::numbered::fails;
+use crate::failing::fails;
 use crate::sink::Sink;
 use kn_base::{List, Octets};
 use std::alloc::Global;
@@ -41,6 +41,7 @@ impl MemSink {
         }
     }
 
+    /// All bytes that were written to it, the first at the front.
     pub fn written(&self) -> &[u8]
         ensures { result.now ≡ self.now.written }
     {

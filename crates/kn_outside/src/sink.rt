@@ -1,6 +1,6 @@
 //! What is written to.
 ghost use Rattle.std.specs.Prelude.{◌≡◌, ℕ, ◌<◌, ◌≤◌, take, length, IfOk, OnErr};
-ghost use Rattle.kn_outside.specs.Told.{more};
+ghost use Rattle.kn_outside.specs.SpecifiedBytes.{more};
 ghost use Rattle.kn_outside.specs.Faults.{Rose};
 ghost use Rattle.kn_outside.specs.Printing.{Prints, is_whole};
 

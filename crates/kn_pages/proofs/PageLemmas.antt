@@ -338,8 +338,7 @@ module _ {T : Type 0} where
     page_shorter emptied after other shorter items rest first second same out value many within =
         let ps = pages_of pages in
         let left = remove (arc_value here) place in
-        let seen : arc_value shorter ≡ left =
-        value ∙ out ∙ ap (λ l. remove l place) same in
+        let seen : arc_value shorter ≡ left = value ∙ out ∙ ap (λ l. remove l place) same in
         let some : 1 ≤ length left = some_left (arc_value here) left place refl many within in
         let next : page + 1 ≡ suc page = omega arith in
         let count = length-map pages (arc_value {X = List T} {Z = Global}) in

@@ -5,21 +5,21 @@ use Rattle.kn_history.specs.declared.update.Update.{Update}
 use Rattle.kn_wire.proofs.Readings.{one_reading}
 use Rattle.kn_session.specs.Sessions.{Session, session_in}
 use Rattle.kn_daemon.specs.Daemon.{first_state, session_of}
-use Rattle.kn_daemon.specs.Played.{played, up_to_end, no_grounds, IsAsking, IsMeant}
+use Rattle.kn_daemon.specs.Played.{played, up_to_end, no_config, IsAsking, IsLastQuery}
 use Rattle.kn_daemon.proofs.Meaning.{one_meant}
-use Rattle.kn_play.specs.declared.playing.LastQuery.{LastQuery}
+use Rattle.kn_play.specs.declared.playing.AnsweredQuery.{AnsweredQuery}
 use Rattle.kn_play.specs.declared.playing.Played.{Played}
-use Rattle.kn_play.specs.Meaning.{Means}
+use Rattle.kn_play.specs.LastQueries.{Means}
 use Rattle.kn_play.specs.Playing.{state_of_sessions, AskNothing, HasLast, IsLast, IsPlayed}
 use Rattle.kn_play.proofs.Requests.{few-played, one-end}
-use Rattle.kn_play.proofs.Underway.{played-append, nothing-at}
+use Rattle.kn_play.proofs.ScriptLoops.{played-append, nothing-at}
 
 pub one-query : (history : List Update) (script : List ℕ) (session other : Session) (values others : List (List ℕ))
     → Means history script session values → Means history script other others
     → (session ≡ other) × (values ≡ others)
 one-query history script session other values others a b =
     one_meant history a.requests session other values others a.meant
-    (subst (λ requests. IsMeant history requests other others)
+    (subst (λ requests. IsLastQuery history requests other others)
     (sym (one_reading script a.requests b.requests a.rest b.rest a.whole b.whole).0) b.meant)
 
 module _ (history : List Update) (script : List ℕ) (most : ℕ) (p : Played) (q : IsPlayed history script most p)
@@ -39,7 +39,7 @@ module _ (history : List Update) (script : List ℕ) (most : ℕ) (p : Played) (
       nothing-at history first_state m.meant.front m.meant.query m.meant.behind
       (subst (λ requests. HasLast history requests None) (same ∙ m.meant.cut) last) session values m.meant.asking
 
-  module _ (last : LastQuery) (some : p.last ≡ Some last) where
+  module _ (last : AnsweredQuery) (some : p.last ≡ Some last) where
     is-last : IsLast history q.requests last
     is-last = subst (HasLast history q.requests) some has-last
 
@@ -59,8 +59,8 @@ module _ (history : List Update) (script : List ℕ) (most : ℕ) (p : Played) (
         let same : b.requests ≡ q.requests = one-end script b.requests q.requests b.these q.these in
         let front : take last.before b.requests ≡ l.front = ap (take last.before) (same ∙ l.cut)
         ∙ take_at l.front (l.query ∷ l.behind) last.before (sym l.before) in
-        let state : state_of_sessions before.sessions ≡ played no_grounds history first_state l.front = b.state
-        ∙ ap (played no_grounds history first_state) front in (
+        let state : state_of_sessions before.sessions ≡ played no_config history first_state l.front = b.state
+        ∙ ap (played no_config history first_state) front in (
           l.asks.0,
           ap (λ s. session_of s last.asked.session) state ∙ l.asks.1,
           record {
@@ -74,12 +74,12 @@ module _ (history : List Update) (script : List ℕ) (most : ℕ) (p : Played) (
               cut = q.these.end ∙ l.cut;
               asking = l.asks.2;
               last = λ between other rest s v cut asking.
-                  nothing-at history (played no_grounds history first_state (l.front ++ l.query ∷ [])) between other
+                  nothing-at history (played no_config history first_state (l.front ++ l.query ∷ [])) between other
                   rest
-                  (subst (AskNothing history (played no_grounds history first_state (l.front ++ l.query ∷ []))) cut
+                  (subst (AskNothing history (played no_config history first_state (l.front ++ l.query ∷ []))) cut
                   l.last)
                   s v (subst (λ state. IsAsking state other s v)
-                  (ap (played no_grounds history first_state) (sym (append_assoc l.front (l.query ∷ []) between))
+                  (ap (played no_config history first_state) (sym (append_assoc l.front (l.query ∷ []) between))
                   ∙ played-append history first_state (l.front ++ l.query ∷ []) between) asking);
             };
           },

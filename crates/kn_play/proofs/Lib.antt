@@ -1,6 +1,6 @@
 pub mod Requests
-pub mod Underway
-pub mod Watched
+pub mod ScriptLoops
+pub mod StandingQueries
 pub mod Finding
-pub mod Refused
-pub mod Retained
+pub mod CallRefusals
+pub mod RetainedPins

@@ -9,7 +9,7 @@ use Rattle.kn_wire.specs.declared.fault.WireFault.TheVariants.{Long, Block}
 use Rattle.kn_wire.specs.Requests.{Request, Line, Takes, AreRequests, first_of, first_of_line, first_of_block, line_of}
 use Rattle.kn_wire.specs.Requests.{line_length, without_return, is_newline}
 use Rattle.kn_wire.specs.Requests.Request.{Faulty}
-use Rattle.kn_wire.specs.Requests.Line.{Whole, Blocked}
+use Rattle.kn_wire.specs.Requests.Line.{Whole, WithBlock}
 use Rattle.kn_wire.proofs.Growing.{line_within}
 use Rattle.kn_wire.proofs.Readings.{some_reading, one_reading}
 use Rattle.kn_daemon.specs.Played.{is_last, up_to_end}
@@ -34,7 +34,7 @@ block-left n request text (Some b) = by (b == 10)
 line-left : (line : Line) (text : List ℕ)
     → IfSome {T = Request × List ℕ} (first_of_line line text) (λ f. length f.1 ≤ length text)
 line-left (Whole request) text = omega arith
-line-left (Blocked n request) text = by (nat_lt 16384 n)
+line-left (WithBlock n request) text = by (nat_lt 16384 n)
   where
     by : (t : Bool) → IfSome {T = Request
         × List ℕ} (if t then Some (Faulty (Block n), []) else first_of_block n request text (slice_get text n))

@@ -6,12 +6,12 @@ use Rattle.kn_history.specs.declared.update.Update.{Update}
 use Rattle.kn_wire.specs.Requests.{Request, AreRequests, Takes}
 use Rattle.kn_wire.specs.Feeding.{Held, held_bytes, pushed, next_of, is_shut}
 use Rattle.kn_session.specs.Sessions.{Session, OpenSessions, session_in}
-use Rattle.kn_daemon.specs.Daemon.{State, first_state, session_of, own_refusal, changed}
-use Rattle.kn_daemon.specs.Played.{after_request, played, is_last, up_to_end, no_grounds, AsksOf, IsAsking}
+use Rattle.kn_daemon.specs.Daemon.{State, first_state, session_of, own_refusal, state_after}
+use Rattle.kn_daemon.specs.Played.{after_request, played, is_last, up_to_end, no_config, AsksOf, IsAsking}
 use Rattle.kn_daemon.specs.Shapes.{Shape, shape_of}
 use Rattle.kn_play.specs.declared.asking.Asked.{Asked}
 use Rattle.kn_play.specs.declared.answering.Step.{Step}
-use Rattle.kn_play.specs.declared.playing.LastQuery.{LastQuery}
+use Rattle.kn_play.specs.declared.playing.AnsweredQuery.{AnsweredQuery}
 use Rattle.kn_play.specs.declared.playing.Played.{Played}
 
 -- a connection with these sessions, where ADMIN was never right
@@ -21,8 +21,8 @@ state_of_sessions sessions = record { started = sessions.started; sessions = ses
 -- the state after a request of this shape over a version that nothing changes
 abbrev pub applied : List Update → OpenSessions → Shape → State
 applied history sessions shape =
-    option_map_or (λ refusal. state_of_sessions sessions) (own_refusal no_grounds (state_of_sessions sessions) shape)
-    (changed history (state_of_sessions sessions) shape)
+    option_map_or (λ refusal. state_of_sessions sessions) (own_refusal no_config (state_of_sessions sessions) shape)
+    (state_after history (state_of_sessions sessions) shape)
 
 -- there is room for the numbers of one more session, and of one more private assertion in each
 pub record NumbersGoOn (sessions : OpenSessions) : Type 0 where
@@ -108,24 +108,24 @@ pub record AreUpToEnd (script : List ℕ) (requests : List Request) : Type 0 whe
 abbrev pub AskNothing : List Update → State → List Request → Type 0
 AskNothing history state [] = Unit {0}
 AskNothing history state (request ∷ requests) = IsNoAnsweredQuery state request
-    × AskNothing history (after_request no_grounds history state request) requests
+    × AskNothing history (after_request no_config history state request) requests
 
 -- the last query among requests that is answered with a value
-pub record IsLast (history : List Update) (requests : List Request) (q : LastQuery) : Type 0 where
+pub record IsLast (history : List Update) (requests : List Request) (q : AnsweredQuery) : Type 0 where
   pub front : List Request
   pub query : Request
   pub behind : List Request
   pub cut : requests ≡ front ++ query ∷ behind
   pub before : q.before ≡ length front
-  pub asks : Asks (played no_grounds history first_state front) query (Some q.asked)
-  pub last : AskNothing history (played no_grounds history first_state (front ++ query ∷ [])) behind
+  pub asks : Asks (played no_config history first_state front) query (Some q.asked)
+  pub last : AskNothing history (played no_config history first_state (front ++ query ∷ [])) behind
 
-abbrev pub HasLast : List Update → List Request → Option LastQuery → Type 0
+abbrev pub HasLast : List Update → List Request → Option AnsweredQuery → Type 0
 HasLast history requests None = AskNothing history first_state requests
 HasLast history requests (Some last) = IsLast history requests last
 
 -- the last query, where this is what the request behind so many others asks
-abbrev pub later_of : Option LastQuery → ℕ → Option Asked → Option LastQuery
+abbrev pub later_of : Option AnsweredQuery → ℕ → Option Asked → Option AnsweredQuery
 later_of last before None = last
 later_of last before (Some asked) = Some (record { before = before; asked = asked })
 
@@ -133,14 +133,14 @@ later_of last before (Some asked) = Some (record { before = before; asked = aske
 pub record IsPlayed (history : List Update) (script : List ℕ) (most : ℕ) (p : Played) : Type 0 where
   pub requests : List Request
   pub these : AreUpToEnd script requests
-  pub state : state_of_sessions p.sessions ≡ played no_grounds history first_state (take most requests)
+  pub state : state_of_sessions p.sessions ≡ played no_config history first_state (take most requests)
   pub last : HasLast history (take most requests) p.last
 
 -- these requests were taken and played, and none of them is the last
 pub record IsBeingPlayed (history : List Update) (script : List ℕ) (from : ℕ) (held : Held) (requests : List Request)
-    (sessions : OpenSessions) (found : Option LastQuery) (count : ℕ) : Type 0 where
+    (sessions : OpenSessions) (found : Option AnsweredQuery) (count : ℕ) : Type 0 where
   pub fed : IsFed script from held requests
   pub goes_on : list_any is_last requests ≡ false
-  pub state : state_of_sessions sessions ≡ played no_grounds history first_state requests
+  pub state : state_of_sessions sessions ≡ played no_config history first_state requests
   pub last : HasLast history requests found
   pub size : length requests ≡ count

@@ -1,6 +1,6 @@
 //! The next request of a feed, played.
 ghost use Rattle.std.specs.Prelude.{◌≡◌, IfOk};
-ghost use Rattle.kn_wire.specs.Digits.{IsWellFormed};
+ghost use Rattle.kn_wire.specs.Hex.{IsWellFormed};
 ghost use Rattle.kn_wire.specs.Requests.{Faulty};
 ghost use Rattle.kn_wire.specs.Feeds.{held};
 ghost use Rattle.kn_wire.specs.Wired.{request_of};

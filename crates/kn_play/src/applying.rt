@@ -4,8 +4,8 @@ ghost use Rattle.std.specs.Arc.{arc_value};
 ghost use Rattle.kn_history.specs.declared.update.Update.{Update};
 ghost use Rattle.kn_session.specs.Calls.{Set, call_of};
 ghost use Rattle.kn_session.specs.declared.fault.SessionFault.TheVariants as F;
-ghost use Rattle.kn_wire.specs.Digits.{bytes_of_digits};
-ghost use Rattle.kn_wire.specs.Requests.{are_digits};
+ghost use Rattle.kn_wire.specs.Hex.{bytes_of_hex};
+ghost use Rattle.kn_wire.specs.Requests.{is_hex};
 ghost use Rattle.kn_daemon.specs.Shapes.{Calls, Asks, Looks, ForNew, ForOpen, ForRetained, ForStanding, ToKeep};
 ghost use Rattle.kn_daemon.specs.Shapes.{shape_in_code, IsFormed};
 ghost use Rattle.kn_play.specs.Playing.{state_of_sessions, applied, NumbersGoOn};
@@ -15,7 +15,7 @@ use kn_base::NoMemory;
 use kn_daemon::shape::Shape;
 use kn_session::{Call, SessionFault, Sessions};
 use kn_store::{Book, Snapshot};
-use kn_wire::decode_digits;
+use kn_wire::decode_hex;
 use std::alloc::Global;
 
 /// Applies a request of this shape. ADMIN, ADD, DROP, BATCH and LOG are always refused. QUERY, CRITICAL and BYE change
@@ -37,7 +37,7 @@ pub(crate) fn apply(
         Shape::News { s } => move_standing(book, sessions, s),
         Shape::Watch { s, values } => watch(alloc, sessions, s, values),
         Shape::Call { s, call } => apply_call(alloc, sessions, s, call),
-        Shape::SetDigits { s, name, digits } => set_digits(alloc, sessions, s, name, digits),
+        Shape::SetDigits { s, name, digits } => set_hex(alloc, sessions, s, name, digits),
         Shape::Add { .. }
         | Shape::Remove { .. }
         | Shape::Batch { .. }
@@ -153,7 +153,7 @@ fn apply_call(
 }
 
 /// Sets an attribute to the bytes of digits.
-fn set_digits(
+fn set_hex(
     alloc: Global,
     sessions: &mut Sessions,
     s: u32,
@@ -161,12 +161,12 @@ fn set_digits(
     digits: &[u8],
 ) -> Result<(), NoMemory>
     requires room { NumbersGoOn sessions.old }
-    requires digits { are_digits digits.now ≡ true }
+    requires digits { is_hex digits.now ≡ true }
     ensures { (history : List Update)
         → OnOk result (state_of_sessions sessions.new
-        ≡ applied history sessions.old (Calls s (Set name.now (bytes_of_digits digits.now)))) }
+        ≡ applied history sessions.old (Calls s (Set name.now (bytes_of_hex digits.now)))) }
 {
-    let bytes = decode_digits(alloc, digits)?;
+    let bytes = decode_hex(alloc, digits)?;
     let value = bytes.as_slice();
     apply_call(alloc, sessions, s, Call::Set { name, value })
 }

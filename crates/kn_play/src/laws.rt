@@ -1,7 +1,7 @@
 //! A law of scripts: the contract of a function that does nothing.
-ghost use Rattle.kn_play.specs.Meaning.{OneQueryOfScript};
+ghost use Rattle.kn_play.specs.LastQueries.{OneQueryOfScript};
 
 /// A script means one query at most: one session as it then stands, and the values that were asked for.
-pub fn one_query_is_meant()
+pub fn last_query_is_one()
     ensures { OneQueryOfScript }
 {}

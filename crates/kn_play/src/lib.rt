@@ -7,13 +7,13 @@
 mod answering;
 mod applying;
 mod asking;
+mod last_query;
 pub mod laws;
-mod meant;
 mod playing;
 mod query;
 mod script;
 
 pub use answering::{is_block, is_bye};
-pub use meant::Meant;
+pub use last_query::LastQuery;
 pub use query::find_query;
-pub use script::push_piece;
+pub use script::push_chunk;

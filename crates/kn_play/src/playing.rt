@@ -13,7 +13,7 @@ use std::alloc::Global;
 
 /// The last QUERY that was answered with a value, behind so many other requests.
 #[derive(Drop)]
-pub(crate) struct LastQuery {
+pub(crate) struct AnsweredQuery {
     pub before: usize,
     pub asked: Asked,
 }
@@ -22,7 +22,7 @@ pub(crate) struct LastQuery {
 #[derive(Drop)]
 pub(crate) struct Played {
     pub sessions: Sessions,
-    pub last: Option<LastQuery>,
+    pub last: Option<AnsweredQuery>,
 }
 
 /// Plays the requests of a script up to their end, but at most so many.
@@ -54,11 +54,11 @@ pub(crate) fn play(
 }
 
 /// The last query, where this is what the request behind so many others asks.
-fn later(last: Option<LastQuery>, before: usize, asked: Option<Asked>) -> Option<LastQuery>
+fn later(last: Option<AnsweredQuery>, before: usize, asked: Option<Asked>) -> Option<AnsweredQuery>
     ensures { result ≡ later_of last before asked }
 {
     match asked {
-        Some(asked) => Some(LastQuery { before, asked }),
+        Some(asked) => Some(AnsweredQuery { before, asked }),
         None => last,
     }
 }

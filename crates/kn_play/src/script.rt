@@ -9,7 +9,7 @@ use crate::answering::{Step, answer_next};
 use kn_base::NoMemory;
 use kn_session::Sessions;
 use kn_store::Book;
-use kn_wire::{Feed, PIECE_BYTES};
+use kn_wire::{CHUNK_BYTES, Feed};
 use std::alloc::Global;
 
 /// Plays the next request of a script, of which so many bytes were fed; None where no whole one is left.
@@ -33,14 +33,14 @@ pub(crate) fn play_next(
                 if *from == script.len() {
                     return Ok(None);
                 }
-                *from = push_piece(script, feed, *from);
+                *from = push_chunk(script, feed, *from);
             }
         }
     }
 }
 
 /// Feeds the next piece of a script, of which `from` bytes were fed, and gives how many bytes were fed then.
-pub fn push_piece(script: &[u8], feed: &mut Feed, from: usize) -> usize
+pub fn push_chunk(script: &[u8], feed: &mut Feed, from: usize) -> usize
     requires within { from < length script.now }
     requires none { next_of (held feed.old) ≡ None }
     ensures more { from < result }
@@ -48,8 +48,8 @@ pub fn push_piece(script: &[u8], feed: &mut Feed, from: usize) -> usize
     ensures fed { (requests : List Request) → IsFed script.now from (held feed.old) requests
         → IsFed script.now result (held feed.new) requests }
 {
-    let end = if script.len() - from > PIECE_BYTES {
-        from + PIECE_BYTES
+    let end = if script.len() - from > CHUNK_BYTES {
+        from + CHUNK_BYTES
     } else {
         script.len()
     };

@@ -17,7 +17,7 @@ use Rattle.kn_program.proofs.Derivations.{cmp, negated, sum, compared, atom, sig
 use Rattle.kn_program.proofs.Derivations.{name}
 use Rattle.kn_program.specs.Reading.{tests_at, negation_at, comparison_at, chain_at, operand_at, atom_at}
 use Rattle.kn_program.specs.declared.signs.Joint.TheVariants as joint
-use Rattle.kn_program.specs.declared.signs.Level.TheVariants as level
+use Rattle.kn_program.specs.declared.signs.Precedence.TheVariants as level
 use Rattle.kn_program.proofs.SignLemmas.{comparison_there, prefix_there}
 use Rattle.kn_fields.proofs.Words.{taken_there, marked_there}
 use Rattle.kn_fields.proofs.Levels.{IsComplete, level_complete, closed_complete}

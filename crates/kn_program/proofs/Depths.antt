@@ -2,14 +2,14 @@
 -- is open, and as many for what stands in the innermost.
 use Rattle.std.proofs.Common.{◌≡◌, ℕ, ◌+◌, ◌*◌, ◌≤◌, max, pos, List, [], ◌∷◌, ◌++◌, map, codes, Some, Ok, refl, ap}
 use Rattle.std.proofs.Common.{arith}
-use Rattle.kn_lex.specs.Cutting.{Seen}
+use Rattle.kn_lex.specs.Cutting.{TokenView}
 use Rattle.kn_fields.specs.Depth.{IsTooDeep}
 use Rattle.kn_fields.proofs.Nesting.{Fits, shallow_fits, fits_here, fits_front, fits_between, fits_group, fits_block}
 use Rattle.kn_trees.specs.Formulas.{greatest_of}
-use Rattle.kn_trees.specs.Levels.{expr_depth, program_depth, clause_depth}
-use Rattle.kn_trees.proofs.Leveled.{link_depths, depth-Truth, depth-Whole, depth-Text, depth-Name, depth-Not}
-use Rattle.kn_trees.proofs.Leveled.{depth-Minus, depth-Number, depth-Deref, depth-And, depth-Or, depth-Compare}
-use Rattle.kn_trees.proofs.Leveled.{depth-Chain, depth-Top, depth-Value, depth-Block, depth-clause, depth-program}
+use Rattle.kn_trees.specs.Depths.{expr_depth, program_depth, clause_depth}
+use Rattle.kn_trees.proofs.ExprDepthLaws.{link_depths, depth-Truth, depth-Whole, depth-Text, depth-Name, depth-Not}
+use Rattle.kn_trees.proofs.ExprDepthLaws.{depth-Minus, depth-Number, depth-Deref, depth-And, depth-Or, depth-Compare}
+use Rattle.kn_trees.proofs.ExprDepthLaws.{depth-Chain, depth-Top, depth-Value, depth-Block, depth-clause, depth-program}
 use Rattle.kn_trees.specs.declared.program.Expr.{Expr}
 use Rattle.kn_trees.specs.declared.program.Link2.{Link2}
 use Rattle.kn_trees.specs.declared.program.Program.{Program as ProgramTree}
@@ -214,7 +214,7 @@ mutual
   clauses_levels : (depth run : ℕ) (p : Program) → Fits depth run (program_words p)
       → clauses_depth (program_clauses p) + 25 * depth ≤ 1628
   clauses_levels depth run (ends nothing) fits = omega (arith, (fits_here depth run [] fits).0)
-  clauses_levels depth run (ends (something c)) fits = omega (arith, clause_levels depth run c fits)
+  clauses_levels depth run (ends (something c)) fits = omega (arith, clause_depth_step depth run c fits)
   clauses_levels depth run (goes_on nothing p) fits =
       omega (
         arith,
@@ -225,16 +225,16 @@ mutual
   clauses_levels depth run (goes_on (something c) p) fits =
       omega (
         arith,
-        clause_levels depth run c
+        clause_depth_step depth run c
             (fits_front depth run (clause_words c) (sign_word (codes ";") ∷ program_words p) fits),
         clauses_levels depth 0 p
             (fits_between depth run (clause_words c) (program_words p) (sign_word (codes ";"))
             (entry_closes (something c)) (λ depth. refl) fits),
       )
 
-  clause_levels : (depth run : ℕ) (c : Clause) → Fits depth run (clause_words c)
+  clause_depth_step : (depth run : ℕ) (c : Clause) → Fits depth run (clause_words c)
       → clause_depth (clause_tree c) + 25 * depth ≤ 1628
-  clause_levels depth run (bare test) fits =
+  clause_depth_step depth run (bare test) fits =
       omega (
         arith,
         (fits_here depth run (or_words test) fits).0,
@@ -242,7 +242,7 @@ mutual
         depth-Top,
         test_levels depth run test fits,
       )
-  clause_levels depth run (valued test value) fits =
+  clause_depth_step depth run (valued test value) fits =
       let left = fits_front depth run (or_words test) (sign_word (codes "->") ∷ or_words value) fits in
       let right = fits_between depth run (or_words test) (or_words value) (sign_word (codes "->")) (or_closes test)
       (λ depth. refl) fits in
@@ -253,7 +253,7 @@ mutual
         test_levels depth run test left,
         test_levels depth 0 value right,
       )
-  clause_levels depth run (nested test p) fits =
+  clause_depth_step depth run (nested test p) fits =
       let block : List Word = sign_word (codes "{") ∷ (program_words p ++ sign_word (codes "}") ∷ []) in
       let left = fits_front depth run (or_words test) (sign_word (codes "->") ∷ block) fits in
       let right = fits_between depth run (or_words test) block (sign_word (codes "->")) (or_closes test) (λ depth. refl)
@@ -268,7 +268,7 @@ mutual
       )
 
 -- what is found of tokens that don't go too deep
-pub found_shallow : (tokens : List Seen) (program : ProgramTree) → program_of tokens ≡ Ok (Some program)
+pub found_shallow : (tokens : List TokenView) (program : ProgramTree) → program_of tokens ≡ Ok (Some program)
     → (IsTooDeep tokens → ⊥) → program_depth program ≤ 1700
 found_shallow tokens program found shallow =
     let spelled = (program_stands tokens (Some program) found).spelled in

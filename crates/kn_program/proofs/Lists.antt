@@ -22,8 +22,8 @@ use Rattle.kn_program.proofs.Derivations.{ands, either, nots, each, product, add
 use Rattle.kn_program.proofs.Derivations.{ends, goes_on, nothing, something}
 use Rattle.kn_program.specs.Reading.{one_link, one_entry, listed}
 use Rattle.kn_program.specs.declared.signs.Joint.TheVariants as joint
-use Rattle.kn_program.specs.declared.signs.Level.{Level as Tier}
-use Rattle.kn_program.specs.declared.signs.Level.TheVariants as level
+use Rattle.kn_program.specs.declared.signs.Precedence.{Precedence}
+use Rattle.kn_program.specs.declared.signs.Precedence.TheVariants as level
 use Rattle.kn_program.proofs.SignLemmas.{operation_before, operation_there}
 
 abbrev pub and_tree : And → Expr
@@ -60,19 +60,20 @@ and_level = mark_level (codes "&&") one_part (joined joint.And) not_words not_tr
 
 -- the chains
 
-pub chain_before : (l : Tier) (words rest : List Word) (s : Operation) → taken (operation_of l) words ≡ Some (s, rest)
+pub chain_before : (l : Precedence) (words rest : List Word) (s : Operation)
+    → taken (operation_of l) words ≡ Some (s, rest)
     → (words ≡ sign_word (operation_text s) ∷ rest) × (is_at l s ≡ true)
 chain_before l words rest s e =
     let t = taken_before (operation_of l) words rest s e in
     let o = operation_before l t.text s t.stands_for in
     (t.words_are ∙ ap (λ (text : List ℕ). sign_word text ∷ rest) o.0, o.1)
 
-pub chain_there : (l : Tier) (s : Operation) (rest : List Word) → is_at l s ≡ true
+pub chain_there : (l : Precedence) (s : Operation) (rest : List Word) → is_at l s ≡ true
     → taken (operation_of l) (sign_word (operation_text s) ∷ rest) ≡ Some (s, rest)
 chain_there l s rest fits = taken_there (operation_of l) (operation_text s) rest s (operation_there l s fits)
 
 -- a level by the first side of its derivations and the links behind it
-abbrev pub chain_level : {I D : Type 0} (l : Tier) (item_words : I → List Word) (item_tree : I → Expr) (words : D
+abbrev pub chain_level : {I D : Type 0} (l : Precedence) (item_words : I → List Word) (item_tree : I → Expr) (words : D
     → List Word) (first : D → Expr) (links : D → List Link2)
     (alone : I → D) (more : I → (s : Operation) → is_at l s ≡ true → D → D)
     → ((i : I) → words (alone i) ≡ item_words i) → ((i : I) → first (alone i) ≡ item_tree i)

@@ -5,22 +5,22 @@ use Rattle.kn_trees.specs.declared.program.Comparison.{Comparison}
 use Rattle.kn_trees.specs.declared.program.Operation.{Operation}
 use Rattle.kn_program.specs.Signs.{operation_text, operation_of, is_at, comparison_text, comparison_of, prefix_text}
 use Rattle.kn_program.specs.Signs.{prefix_of}
-use Rattle.kn_program.specs.declared.signs.Level.{Level}
-use Rattle.kn_program.specs.declared.signs.Level.TheVariants.{Sum, Product, Power}
+use Rattle.kn_program.specs.declared.signs.Precedence.{Precedence}
+use Rattle.kn_program.specs.declared.signs.Precedence.TheVariants.{Sum, Product, Power}
 use Rattle.kn_program.specs.declared.signs.Prefix.{Prefix}
 
 -- the text is that of the operation, which stands on this level
-abbrev IsOperation : Level → List ℕ → Operation → Type 0
+abbrev IsOperation : Precedence → List ℕ → Operation → Type 0
 IsOperation level text operation = (text ≡ operation_text operation) × (is_at level operation ≡ true)
 
-pub operation_before : (level : Level) (text : List ℕ) (found : Operation) → operation_of level text ≡ Some found
+pub operation_before : (level : Precedence) (text : List ℕ) (found : Operation) → operation_of level text ≡ Some found
     → IsOperation level text found
 unfolding operation_of
 operation_before Sum text found e = grind (arith, bytes_eq-Decides)
 operation_before Product text found e = grind (arith, bytes_eq-Decides)
 operation_before Power text found e = grind (arith, bytes_eq-Decides)
 
-pub operation_there : (level : Level) (found : Operation) → is_at level found ≡ true
+pub operation_there : (level : Precedence) (found : Operation) → is_at level found ≡ true
     → operation_of level (operation_text found) ≡ Some found
 unfolding operation_of
 operation_there level found e = grind arith

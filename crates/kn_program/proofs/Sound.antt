@@ -22,7 +22,7 @@ use Rattle.kn_fields.proofs.Levels.{Spelled, IsSound, none_sound, level_sound, c
 use Rattle.kn_program.specs.Reading.{name_tree, number_tree, atom_by, atom_front, tests_at, negation_at, comparison_at}
 use Rattle.kn_program.specs.Reading.{chain_at, operand_at, atom_at}
 use Rattle.kn_program.specs.declared.signs.Joint.TheVariants as joint
-use Rattle.kn_program.specs.declared.signs.Level.TheVariants as level
+use Rattle.kn_program.specs.declared.signs.Precedence.TheVariants as level
 use Rattle.kn_program.proofs.SignLemmas.{comparison_before, prefix_before}
 use Rattle.kn_program.proofs.Lists.{and_tree, sum_tree, product_tree, power_tree, or_level, and_level, sum_level}
 use Rattle.kn_program.proofs.Lists.{product_level, power_level}

@@ -13,7 +13,7 @@ use Rattle.kn_trees.specs.Forms.{link, links_of}
 use Rattle.kn_program.specs.Signs.{joint_text, operation_of}
 use Rattle.kn_program.specs.Trees.{several, chained}
 use Rattle.kn_program.specs.declared.signs.Joint.{Joint}
-use Rattle.kn_program.specs.declared.signs.Level.{Level}
+use Rattle.kn_program.specs.declared.signs.Precedence.{Precedence}
 use Rattle.kn_program.specs.Reading.{test_at, side_at}
 use Rattle.kn_program.specs.Stacking.{Stands, PutsBehind}
 use Rattle.kn_program.proofs.TreeLemmas.{joined_more}
@@ -111,7 +111,7 @@ chain_some first [] last = refl
 chain_some first (link ∷ links) last = refl
 
 -- operations of which these right sides are read, on top of a first side
-pub record Rights (level : Level) (budget left : ℕ) (sign : Operation) (signs : List Operation) (first : Expr)
+pub record Rights (level : Precedence) (budget left : ℕ) (sign : Operation) (signs : List Operation) (first : Expr)
     (below stack : List Expr)
     (words : List Word) (all : Read Expr) : Type 0 where
   pub rights : List Expr
@@ -120,14 +120,14 @@ pub record Rights (level : Level) (budget left : ℕ) (sign : Operation) (signs 
   pub going : Links level first budget left sign (links_of signs rights) words all
 
 -- whatever stood below that
-abbrev pub RightsStand : Level → ℕ → ℕ → Operation → List Operation → List Expr → List Expr → List Word
+abbrev pub RightsStand : Precedence → ℕ → ℕ → Operation → List Operation → List Expr → List Expr → List Word
     → (Expr → Read Expr) → Type 0
 RightsStand level budget left sign signs old stack words all =
     (below : List Expr) (first : Expr) → old ≡ below ++ first ∷ []
     → Rights level budget left sign signs first below stack words (all first)
 
 -- an operation more is read
-module _ {level : Level} {budget left : ℕ} {sign : Operation} {signs longer_signs : List Operation} {first :
+module _ {level : Precedence} {budget left : ℕ} {sign : Operation} {signs longer_signs : List Operation} {first :
     Expr} {below stack longer : List Expr}
     {words rest : List Word} {all : Read Expr} (r : Rights level budget left sign signs first below stack words all)
     (some : 0 < left)

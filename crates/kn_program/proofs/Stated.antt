@@ -2,7 +2,7 @@
 use Rattle.std.proofs.Common.{◌≡◌, ℕ, ◌+◌, ◌*◌, Bool, true, false, List, [], ◌∷◌, length, Option, Some, None, Result}
 use Rattle.std.proofs.Common.{Ok, Err, refl, sym, ap, subst, ◌∙◌, arith, append-nil}
 use Rattle.std.specs.Prelude.{if◌then◌else◌}
-use Rattle.kn_lex.specs.Cutting.{Seen}
+use Rattle.kn_lex.specs.Cutting.{TokenView}
 use Rattle.kn_fields.specs.Words.{Word, words_of}
 use Rattle.kn_fields.specs.Reading.{map_read, taken}
 use Rattle.kn_fields.proofs.Steps.{mapped, whole_read}
@@ -17,7 +17,7 @@ use Rattle.kn_program.proofs.Complete.{nil_stops}
 use Rattle.kn_program.proofs.Programs.{StopsEntry, sound_program, complete_program}
 
 -- what is read of all the words is spelled by them
-pub read_spelled : (tokens : List Seen) (program : ProgramTree) → read_program (words_of tokens) ≡ Some program
+pub read_spelled : (tokens : List TokenView) (program : ProgramTree) → read_program (words_of tokens) ≡ Some program
     → IsProgram tokens program
 unfolding read_program
 read_spelled tokens program e =
@@ -46,33 +46,35 @@ form_read form =
     let same : program_at n (program_words form) ≡ Some (program_clauses form, []) = rw append-nil at all in
     rw same refl
 
-pub spelled_read : (tokens : List Seen) (program : ProgramTree) → IsProgram tokens program
+pub spelled_read : (tokens : List TokenView) (program : ProgramTree) → IsProgram tokens program
     → read_program (words_of tokens) ≡ Some program
 spelled_read tokens program s = rw (← s.words, form_read s.form, s.tree) refl
 
 -- tokens spell at most one program
-pub spelled_once : (tokens : List Seen) (a b : ProgramTree) → IsProgram tokens a → IsProgram tokens b → a ≡ b
+pub spelled_once : (tokens : List TokenView) (a b : ProgramTree) → IsProgram tokens a → IsProgram tokens b → a ≡ b
 spelled_once tokens a b s t = let first = spelled_read tokens a s in let second = spelled_read tokens b t in cc
 
 -- what is found of tokens, by what is spelled
-of_spelled : (tokens : List Seen) (program : ProgramTree) → (tokens ≡ [] → ⊥) → IsProgram tokens program
+of_spelled : (tokens : List TokenView) (program : ProgramTree) → (tokens ≡ [] → ⊥) → IsProgram tokens program
     → program_of tokens ≡ judged program
 unfolding program_of
 of_spelled [] program some s = absurd (some refl)
 of_spelled (token ∷ tokens) program some s = ap judged_read (spelled_read (token ∷ tokens) program s)
 
 -- the program, if there is one, is what is found
-pub program_is_found : (tokens : List Seen) (p : Option ProgramTree) → IsConditions tokens p → program_of tokens ≡ Ok p
+pub program_is_found : (tokens : List TokenView) (p : Option ProgramTree) → IsConditions tokens p
+    → program_of tokens ≡ Ok p
 unfolding program_of
 program_is_found tokens None none = ap program_of none
 program_is_found tokens (Some program) is = rw (of_spelled tokens program is.some is.spelled, is.kinds) refl
 
 -- so is the fault
-pub fault_is_found : (tokens : List Seen) (fault : ProgramFault) → Shows tokens fault → program_of tokens ≡ Err fault
+pub fault_is_found : (tokens : List TokenView) (fault : ProgramFault) → Shows tokens fault
+    → program_of tokens ≡ Err fault
 unfolding program_of
 fault_is_found tokens Syntax h = no_program tokens h
   where
-    no_program : (tokens : List Seen) → HasNoProgram tokens → program_of tokens ≡ Err Syntax
+    no_program : (tokens : List TokenView) → HasNoProgram tokens → program_of tokens ≡ Err Syntax
     no_program [] h = absurd (h.some refl)
     no_program (token ∷ tokens) h =
         let none = λ (program : ProgramTree) (is : read_program (words_of (token ∷ tokens)) ≡ Some program).
@@ -82,17 +84,17 @@ fault_is_found tokens Kind h = rw (of_spelled tokens h.program h.some h.spelled,
 fault_is_found tokens NoMemory h = absurd h
 
 -- what a finding says of the tokens
-abbrev Says : List Seen → Result (Option ProgramTree) ProgramFault → Type 0
+abbrev Says : List TokenView → Result (Option ProgramTree) ProgramFault → Type 0
 Says tokens (Ok program) = IsConditions tokens program
 Says tokens (Err fault) = Shows tokens fault
 
-judged_says : (tokens : List Seen) (program : ProgramTree) → (tokens ≡ [] → ⊥) → IsProgram tokens program
+judged_says : (tokens : List TokenView) (program : ProgramTree) → (tokens ≡ [] → ⊥) → IsProgram tokens program
     → (well : Bool) → is_well_kinded program ≡ well
     → Says tokens (if well then Ok (Some program) else Err Kind)
 judged_says tokens program some s true well = record { some = some; spelled = s; kinds = well }
 judged_says tokens program some s false bad = record { some = some; program = program; spelled = s; bad = bad }
 
-found_says : (tokens : List Seen) → Says tokens (program_of tokens)
+found_says : (tokens : List TokenView) → Says tokens (program_of tokens)
 unfolding program_of
 found_says [] = refl
 found_says (token ∷ tokens) = by (read_program (words_of (token ∷ tokens))) refl
@@ -103,22 +105,23 @@ found_says (token ∷ tokens) = by (read_program (words_of (token ∷ tokens))) 
     by (Some program) some = judged_says (token ∷ tokens) program (λ e. cc) (read_spelled (token ∷ tokens) program some)
         (is_well_kinded program) refl
 
-pub program_stands : (tokens : List Seen) (p : Option ProgramTree) → program_of tokens ≡ Ok p → IsConditions tokens p
+pub program_stands : (tokens : List TokenView) (p : Option ProgramTree) → program_of tokens ≡ Ok p
+    → IsConditions tokens p
 program_stands tokens p e = subst (Says tokens) e (found_says tokens)
 
-pub fault_stands : (tokens : List Seen) (fault : ProgramFault) → program_of tokens ≡ Err fault → Shows tokens fault
+pub fault_stands : (tokens : List TokenView) (fault : ProgramFault) → program_of tokens ≡ Err fault → Shows tokens fault
 fault_stands tokens fault e = subst (Says tokens) e (found_says tokens)
 
 pub ruleset findings = (program_is_found, fault_is_found, program_stands, fault_stands)
 
 -- a field with no token states no program, and one with tokens is judged by what is read of them
 
-pub nothing_found : (tokens : List Seen) → length (words_of tokens) ≡ 0 → program_of tokens ≡ Ok None
+pub nothing_found : (tokens : List TokenView) → length (words_of tokens) ≡ 0 → program_of tokens ≡ Ok None
 unfolding program_of words_of
 nothing_found [] none = refl
 nothing_found (token ∷ tokens) none = absurd (omega arith)
 
-pub judged_by : (tokens : List Seen) → (length (words_of tokens) ≡ 0 → ⊥)
+pub judged_by : (tokens : List TokenView) → (length (words_of tokens) ≡ 0 → ⊥)
     → program_of tokens ≡ judged_read (read_program (words_of tokens))
 unfolding program_of words_of
 judged_by [] some = absurd (some refl)

@@ -13,8 +13,8 @@ use Rattle.kn_program.specs.Signs.{joint_text, height, operation_of, comparison_
 use Rattle.kn_program.specs.Trees.{joined, chained, prefixed}
 use Rattle.kn_program.specs.declared.signs.Joint.{Joint}
 use Rattle.kn_program.specs.declared.signs.Joint.TheVariants.{Or, And}
-use Rattle.kn_program.specs.declared.signs.Level.{Level}
-use Rattle.kn_program.specs.declared.signs.Level.TheVariants.{Sum, Product, Power}
+use Rattle.kn_program.specs.declared.signs.Precedence.{Precedence}
+use Rattle.kn_program.specs.declared.signs.Precedence.TheVariants.{Sum, Product, Power}
 use Rattle.kn_program.specs.Reading.{one_link, atom_front, tests_at, negation_at, comparison_at, chain_at, operand_at}
 use Rattle.kn_program.specs.Reading.{atom_at, test_at, more_tests_at, side_at, links_at, more_links_at, climb_at}
 use Rattle.kn_program.specs.Reading.{first_at, entry_at, one_entry, with_entry, clause_with, value_after, program_at}
@@ -39,7 +39,7 @@ Tests joint budget left parts words all =
 
 -- operands with operations of a level between them
 
-chain_step : (budget : ℕ) (level : Level) (words : List Word)
+chain_step : (budget : ℕ) (level : Precedence) (words : List Word)
     → chain_at budget level words ≡ then_read (side_at (budget - 1) level words) (links_at budget level)
 unfolding chain_at list_at tail_at
 chain_step zero level words = grind arith
@@ -52,7 +52,7 @@ chain_step (suc n) Power words =
     ap (λ m. list_at (taken (operation_of Power)) one_link chained (operand_at m) (suc n) words) (sym (one_less n))
 
 -- a first operand, and the operations behind it
-pub chain_is : (level : Level) (budget : ℕ) (words : List Word)
+pub chain_is : (level : Precedence) (budget : ℕ) (words : List Word)
     → chain_at budget level words ≡ then_read (operand_at (budget - height level) words) (climb_at budget level)
 chain_is Power budget words = chain_step budget Power words
 chain_is Product budget words =
@@ -68,7 +68,7 @@ chain_is Sum budget words =
     ) (grind arith)
 
 -- the operations of the tighter levels come first
-pub climb_step : (budget : ℕ) (level : Level) (operand : Expr) (words : List Word)
+pub climb_step : (budget : ℕ) (level : Precedence) (operand : Expr) (words : List Word)
     → climb_at budget level operand words
     ≡ then_read (first_at (budget - 1) level operand words) (links_at budget level)
 climb_step budget Sum operand words = refl
@@ -76,31 +76,31 @@ climb_step budget Product operand words = refl
 climb_step budget Power operand words = refl
 
 -- a first side, and where an operation stands behind it, the others
-pub links_step : (budget : ℕ) (level : Level) (first : Expr) (words : List Word) → 0 < budget
+pub links_step : (budget : ℕ) (level : Precedence) (first : Expr) (words : List Word) → 0 < budget
     → links_at budget level first words ≡ behind_sign (taken (operation_of level) words) (Some (first, words))
     (more_links_at (budget - 1) level first)
 unfolding chained
 links_step budget level first words some =
     grind (arith, tail_step (taken (operation_of level)) one_link (side_at (budget - 1) level) budget words some)
 
-pub some_levels : (level : Level) → 0 < height level
+pub some_levels : (level : Precedence) → 0 < height level
 some_levels Sum = omega arith
 some_levels Product = omega arith
 some_levels Power = omega arith
 
 -- the links of which so much is read
-abbrev pub Links : Level → Expr → ℕ → ℕ → Operation → List Link2 → List Word → Read Expr → Type 0
+abbrev pub Links : Precedence → Expr → ℕ → ℕ → Operation → List Link2 → List Word → Read Expr → Type 0
 Links level first budget left sign links words all =
     Going (taken (operation_of level)) one_link (side_at budget level) (chained first) left sign links words all
 
 -- an operand with no operation behind it
-links_none : (budget : ℕ) (level : Level) (first : Expr) (words : List Word) → 0 < budget
+links_none : (budget : ℕ) (level : Precedence) (first : Expr) (words : List Word) → 0 < budget
     → None ≡ taken (operation_of level) words
     → links_at budget level first words ≡ Some (first, words)
 links_none budget level first words some none = grind (arith, links_step budget level first words some)
 
-pub climb_none : (level : Level) (budget : ℕ) (operand : Expr) (words : List Word) → height level ≤ budget
-    → ((tier : Level) → height tier ≤ height level → None ≡ taken (operation_of tier) words)
+pub climb_none : (level : Precedence) (budget : ℕ) (operand : Expr) (words : List Word) → height level ≤ budget
+    → ((tier : Precedence) → height tier ≤ height level → None ≡ taken (operation_of tier) words)
     → climb_at budget level operand words ≡ Some (operand, words)
 climb_none Power budget operand words enough ends =
     links_none budget Power operand words enough (ends Power (omega arith))

@@ -1,41 +1,42 @@
 -- What the tokens of a Conditions field state (RFC 2704, section 4). The faults and their order are keynoted's own.
 use Rattle.std.specs.Prelude.{◌≡◌, true, false, List, [], ◌∷◌, Option, Some, None, Result, Ok, Err, if◌then◌else◌}
-use Rattle.kn_lex.specs.Cutting.{Seen}
+use Rattle.kn_lex.specs.Cutting.{TokenView}
 use Rattle.kn_fields.specs.Words.{words_of}
 use Rattle.kn_trees.specs.Kinds.{is_well_kinded}
 use Rattle.kn_trees.specs.declared.program.Program.{Program}
 use Rattle.kn_program.specs.Grammar.{IsProgram}
 use Rattle.kn_program.specs.Reading.{read_program}
-use Rattle.kn_fields.specs.declared.unread.Unread.{Unread}
-use Rattle.kn_fields.specs.declared.unread.Unread.TheVariants.{Syntax as unread_Syntax, NoMemory as unread_NoMemory}
+use Rattle.kn_fields.specs.declared.grammar_fault.GrammarFault.{GrammarFault}
+use Rattle.kn_fields.specs.declared.grammar_fault.GrammarFault.TheVariants.{Syntax as grammar_Syntax}
+use Rattle.kn_fields.specs.declared.grammar_fault.GrammarFault.TheVariants.{NoMemory as grammar_NoMemory}
 use Rattle.kn_program.specs.declared.fault.ProgramFault.{ProgramFault}
 use Rattle.kn_program.specs.declared.fault.ProgramFault.TheVariants.{Syntax, Kind, NoMemory}
 
 -- there are tokens, and they spell this program, which is well kinded
-pub record States (tokens : List Seen) (program : Program) : Type 0 where
+pub record States (tokens : List TokenView) (program : Program) : Type 0 where
   pub some : tokens ≡ [] → ⊥
   pub spelled : IsProgram tokens program
   pub kinds : is_well_kinded program ≡ true
 
 -- the tokens state this program, or, being none, no program
-abbrev pub IsConditions : List Seen → Option Program → Type 0
+abbrev pub IsConditions : List TokenView → Option Program → Type 0
 IsConditions tokens None = tokens ≡ []
 IsConditions tokens (Some program) = States tokens program
 
 -- there are tokens, and they spell nothing
-pub record HasNoProgram (tokens : List Seen) : Type 0 where
+pub record HasNoProgram (tokens : List TokenView) : Type 0 where
   pub some : tokens ≡ [] → ⊥
   pub none : (program : Program) → IsProgram tokens program → ⊥
 
 -- there are tokens, and they spell a program that isn't well kinded
-pub record HasBadKinds (tokens : List Seen) : Type 0 where
+pub record HasBadKinds (tokens : List TokenView) : Type 0 where
   pub some : tokens ≡ [] → ⊥
   pub program : Program
   pub spelled : IsProgram tokens program
   pub bad : is_well_kinded program ≡ false
 
 -- the tokens show this fault first
-abbrev pub Shows : List Seen → ProgramFault → Type 0
+abbrev pub Shows : List TokenView → ProgramFault → Type 0
 Shows tokens Syntax = HasNoProgram tokens
 Shows tokens Kind = HasBadKinds tokens
 Shows tokens NoMemory = ⊥
@@ -48,7 +49,7 @@ judged_read None = Err Syntax
 judged_read (Some program) = judged program
 
 -- the program of these tokens, or its first fault
-unfoldable pub program_of : List Seen → Result (Option Program) ProgramFault
+unfoldable pub program_of : List TokenView → Result (Option Program) ProgramFault
 program_of [] = Ok None
 program_of (token ∷ tokens) = judged_read (read_program (words_of (token ∷ tokens)))
 
@@ -58,6 +59,6 @@ Gives (Ok x) read = read ≡ Ok x
 Gives (Err NoMemory) read = Unit {0}
 Gives (Err fault) read = read ≡ Err fault
 
-abbrev pub of_unread : Unread → ProgramFault
-of_unread unread_Syntax = Syntax
-of_unread unread_NoMemory = NoMemory
+abbrev pub of_grammar_fault : GrammarFault → ProgramFault
+of_grammar_fault grammar_Syntax = Syntax
+of_grammar_fault grammar_NoMemory = NoMemory

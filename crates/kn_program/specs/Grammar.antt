@@ -1,7 +1,7 @@
 -- Which tokens spell which program (RFC 2704, section 4, the Conditions field). The levels, and the grouping to the
 -- left, are keynoted's own choices.
 use Rattle.std.specs.Prelude.{◌≡◌, ℕ, pos, Bool, true, List, [], ◌∷◌, ◌++◌, codes, Some, None}
-use Rattle.kn_lex.specs.Cutting.{Seen}
+use Rattle.kn_lex.specs.Cutting.{TokenView}
 use Rattle.kn_fields.specs.Words.{Word, words_of}
 use Rattle.kn_fields.specs.Words.Word.{literal as literal_word, name as name_word, number as number_word}
 use Rattle.kn_fields.specs.Words.Word.{sign as sign_word}
@@ -17,7 +17,7 @@ use Rattle.kn_trees.specs.declared.program.Then.TheVariants.{Top, Value, Block}
 use Rattle.kn_program.specs.Signs.{operation_text, comparison_text, prefix_text, is_at, truth_of, number_of}
 use Rattle.kn_program.specs.Trees.{joined, chained, prefixed}
 use Rattle.kn_program.specs.declared.signs.Joint.TheVariants as joint
-use Rattle.kn_program.specs.declared.signs.Level.TheVariants as level
+use Rattle.kn_program.specs.declared.signs.Precedence.TheVariants as level
 use Rattle.kn_program.specs.declared.signs.Prefix.{Prefix}
 
 -- A derivation of an expression: a constructor for each line of the grammar.
@@ -224,7 +224,7 @@ abbrev pub program_tree : Program → ProgramTree
 program_tree p = program_with (program_clauses p)
 
 -- the tokens spell the program
-pub record IsProgram (tokens : List Seen) (program : ProgramTree) : Type 0 where
+pub record IsProgram (tokens : List TokenView) (program : ProgramTree) : Type 0 where
   pub form : Program
   pub words : program_words form ≡ words_of tokens
   pub tree : program_tree form ≡ program

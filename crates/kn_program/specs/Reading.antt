@@ -21,8 +21,8 @@ use Rattle.kn_program.specs.Trees.{joined, chained, prefixed}
 use Rattle.kn_program.specs.Grammar.{program_with}
 use Rattle.kn_program.specs.declared.signs.Joint.{Joint}
 use Rattle.kn_program.specs.declared.signs.Joint.TheVariants.{Or, And}
-use Rattle.kn_program.specs.declared.signs.Level.{Level}
-use Rattle.kn_program.specs.declared.signs.Level.TheVariants.{Sum, Product, Power}
+use Rattle.kn_program.specs.declared.signs.Precedence.{Precedence}
+use Rattle.kn_program.specs.declared.signs.Precedence.TheVariants.{Sum, Product, Power}
 
 abbrev pub joined_parts : Joint → Expr → List Expr → Expr
 joined_parts joint first parts = joined joint (first ∷ parts)
@@ -73,7 +73,7 @@ unfoldable mutual
       behind_sign (taken comparison_of rest) (Some (left, rest)) (λ found behind.
       map_read (E.Compare found left) (chain_at n Sum behind)))
 
-  pub chain_at : ℕ → Level → Reader Expr
+  pub chain_at : ℕ → Precedence → Reader Expr
   chain_at zero level words = None
   chain_at (suc n) Sum words = list_at (taken (operation_of Sum)) one_link chained (chain_at n Product) (suc n) words
   chain_at (suc n) Product words =
@@ -95,7 +95,7 @@ abbrev pub test_at : ℕ → Joint → Reader Expr
 test_at n Or words = tests_at n And words
 test_at n And words = negation_at n words
 
-abbrev pub side_at : ℕ → Level → Reader Expr
+abbrev pub side_at : ℕ → Precedence → Reader Expr
 side_at n Sum words = chain_at n Product words
 side_at n Product words = chain_at n Power words
 side_at n Power words = operand_at n words
@@ -107,25 +107,25 @@ more_tests_at n joint first words =
     (more_at one_part (test_at n joint) (tail_at (marked (joint_text joint)) one_part (test_at n joint) n) tt words)
 
 -- the operations of a level with a first side that is read, and a sign behind it
-abbrev pub more_links_at : ℕ → Level → Expr → Operation → Reader Expr
+abbrev pub more_links_at : ℕ → Precedence → Expr → Operation → Reader Expr
 more_links_at n level first sign words =
     map_read (chained first)
     (more_at one_link (side_at n level) (tail_at (taken (operation_of level)) one_link (side_at n level) n) sign words)
 
 -- the operations of a level behind a first side
-abbrev pub links_at : ℕ → Level → Expr → Reader Expr
+abbrev pub links_at : ℕ → Precedence → Expr → Reader Expr
 links_at n level first words =
     map_read (chained first) (tail_at (taken (operation_of level)) one_link (side_at (n - 1) level) n words)
 
 -- those of a level and of the tighter ones behind a first operand
-abbrev pub climb_at : ℕ → Level → Expr → Reader Expr
+abbrev pub climb_at : ℕ → Precedence → Expr → Reader Expr
 climb_at n Power first words = links_at n Power first words
 climb_at n Product first words = then_read (links_at (n - 1) Power first words) (links_at n Product)
 climb_at n Sum first words = then_read (then_read (links_at (n - 1 - 1) Power first words) (links_at (n - 1) Product))
     (links_at n Sum)
 
 -- those of the tighter levels
-abbrev pub first_at : ℕ → Level → Expr → Reader Expr
+abbrev pub first_at : ℕ → Precedence → Expr → Reader Expr
 first_at n Sum first words = climb_at n Product first words
 first_at n Product first words = climb_at n Power first words
 first_at n Power first words = Some (first, words)

@@ -9,8 +9,8 @@ use Rattle.kn_trees.specs.declared.program.Operation.{Operation}
 use Rattle.kn_trees.specs.declared.program.Operation.TheVariants.{Plus, Less, Join, Times, Divide, Rest, Power}
 use Rattle.kn_program.specs.declared.signs.Joint.{Joint}
 use Rattle.kn_program.specs.declared.signs.Joint.TheVariants.{Or, And}
-use Rattle.kn_program.specs.declared.signs.Level.{Level}
-use Rattle.kn_program.specs.declared.signs.Level.TheVariants.{Sum, Product, Power as Powers}
+use Rattle.kn_program.specs.declared.signs.Precedence.{Precedence}
+use Rattle.kn_program.specs.declared.signs.Precedence.TheVariants.{Sum, Product, Power as Powers}
 use Rattle.kn_program.specs.declared.signs.Prefix.{Prefix}
 use Rattle.kn_program.specs.declared.signs.Prefix.TheVariants.{Minus, Number, Deref}
 
@@ -29,7 +29,7 @@ operation_text Rest = codes "%"
 operation_text Power = codes "^"
 
 -- the operation stands on this level of the grammar, which is keynoted's own choice
-abbrev pub is_at : Level → Operation → Bool
+abbrev pub is_at : Precedence → Operation → Bool
 is_at Sum Plus = true
 is_at Sum Less = true
 is_at Sum Join = true
@@ -40,13 +40,13 @@ is_at Powers Power = true
 is_at level operation = false
 
 -- how many levels an operand is below this one
-abbrev pub height : Level → ℕ
+abbrev pub height : Precedence → ℕ
 height Sum = 3
 height Product = 2
 height Powers = 1
 
 -- the operation of a level that a sign stands for
-unfoldable pub operation_of : Level → List ℕ → Option Operation
+unfoldable pub operation_of : Precedence → List ℕ → Option Operation
 operation_of Sum text =
     if bytes_eq text (codes "+") then Some Plus
     else if bytes_eq text (codes "-") then Some Less

@@ -9,7 +9,7 @@ ghost use Rattle.kn_program.specs.Reading.{clause_at, tests_at, value_after, rea
 use crate::expression::tests;
 use crate::signs::Joint;
 use kn_base::{List, NoMemory};
-use kn_fields::{Cursor, Unread};
+use kn_fields::{Cursor, GrammarFault};
 use kn_trees::{Clause, ExprStack, FlatExpr, Program, Then};
 use std::alloc::Global;
 
@@ -25,7 +25,11 @@ fn add(list: &mut List<Clause>, entry: Option<Clause>) -> Result<(), NoMemory>
 
 /// The clauses with `;` between them.
 #[cycle(program)]
-fn clauses(alloc: Global, cursor: &mut Cursor<'_, '_>, budget: u64) -> Result<List<Clause>, Unread>
+fn clauses(
+    alloc: Global,
+    cursor: &mut Cursor<'_, '_>,
+    budget: u64,
+) -> Result<List<Clause>, GrammarFault>
     ensures { Reads result (program_at budget cursor.old) cursor.new }
 {
     let mut list = List::new(alloc);
@@ -38,7 +42,7 @@ fn clauses(alloc: Global, cursor: &mut Cursor<'_, '_>, budget: u64) -> Result<Li
         }
         left -= 1;
     }
-    Err(Unread::Syntax)
+    Err(GrammarFault::Syntax)
 }
 
 /// Whether a clause comes next, and not the end of an empty one.
@@ -50,7 +54,11 @@ fn has_clause(cursor: &Cursor<'_, '_>) -> bool
 
 /// A clause, or None where it is empty.
 #[cycle(program)]
-fn entry(alloc: Global, cursor: &mut Cursor<'_, '_>, budget: u64) -> Result<Option<Clause>, Unread>
+fn entry(
+    alloc: Global,
+    cursor: &mut Cursor<'_, '_>,
+    budget: u64,
+) -> Result<Option<Clause>, GrammarFault>
     ensures { Reads result (entry_at (clause_at budget) cursor.old) cursor.new }
 {
     if !has_clause(cursor) {
@@ -62,11 +70,11 @@ fn entry(alloc: Global, cursor: &mut Cursor<'_, '_>, budget: u64) -> Result<Opti
 
 #[cycle(program)]
 #[tactic(auto, using(crate::proofs::Steps::clause_step), unfolding(crate::specs::Reading::clause_at))]
-fn clause(alloc: Global, cursor: &mut Cursor<'_, '_>, budget: u64) -> Result<Clause, Unread>
+fn clause(alloc: Global, cursor: &mut Cursor<'_, '_>, budget: u64) -> Result<Clause, GrammarFault>
     ensures { Reads result (clause_at budget cursor.old) cursor.new }
 {
     if budget == 0 {
-        return Err(Unread::Syntax);
+        return Err(GrammarFault::Syntax);
     }
     let test = expression(alloc, cursor, budget - 1)?;
     if !cursor.take_sign(b"->".as_slice()) {
@@ -81,7 +89,11 @@ fn clause(alloc: Global, cursor: &mut Cursor<'_, '_>, budget: u64) -> Result<Cla
 ///
 /// Room is taken for all tokens left of the field, since how many are its own isn't known yet; `into_expr` gives back
 /// the rest.
-fn expression(alloc: Global, cursor: &mut Cursor<'_, '_>, budget: u64) -> Result<FlatExpr, Unread>
+fn expression(
+    alloc: Global,
+    cursor: &mut Cursor<'_, '_>,
+    budget: u64,
+) -> Result<FlatExpr, GrammarFault>
     ensures { Reads result (tests_at budget Joint.Or cursor.old) cursor.new }
 {
     let mut stack = ExprStack::with_room(alloc, cursor.len())?;
@@ -91,7 +103,7 @@ fn expression(alloc: Global, cursor: &mut Cursor<'_, '_>, budget: u64) -> Result
 
 /// What stands behind `->`.
 #[cycle(program)]
-fn value(alloc: Global, cursor: &mut Cursor<'_, '_>, budget: u64) -> Result<Then, Unread>
+fn value(alloc: Global, cursor: &mut Cursor<'_, '_>, budget: u64) -> Result<Then, GrammarFault>
     ensures { Reads result (value_after cursor.old (tests_at budget Joint.Or) (program_at budget)) cursor.new }
 {
     if !cursor.take_sign(b"{".as_slice()) {
@@ -105,13 +117,13 @@ fn value(alloc: Global, cursor: &mut Cursor<'_, '_>, budget: u64) -> Result<Then
 
 /// The program that all the tokens spell.
 #[tactic(auto, unfolding(crate::specs::Reading::read_program))]
-pub(crate) fn program(alloc: Global, cursor: &mut Cursor<'_, '_>) -> Result<Program, Unread>
+pub(crate) fn program(alloc: Global, cursor: &mut Cursor<'_, '_>) -> Result<Program, GrammarFault>
     ensures { ReadsWhole result (read_program cursor.old) }
 {
     let budget = 12 * u64::from(cursor.len()) + 1;
     let clauses = clauses(alloc, cursor, budget)?;
     match cursor.take() {
-        Some(_) => Err(Unread::Syntax),
+        Some(_) => Err(GrammarFault::Syntax),
         None => Ok(Program { clauses }),
     }
 }

@@ -4,7 +4,7 @@
 //! reading: each step down the grammar takes one, and a list of parts or of operations has fewer than it. Ten for each
 //! token are enough.
 ghost use Rattle.std.specs.Prelude.{◌≡◌, ◌+◌, ◌^◌, ◌≤◌, ◌<◌, length};
-ghost use Rattle.kn_lex.specs.Seeing.{seen};
+ghost use Rattle.kn_lex.specs.TokenViews.{token_view};
 ghost use Rattle.kn_fields.specs.Words.{word_of};
 ghost use Rattle.kn_fields.specs.Reading.{map_read};
 ghost use Rattle.kn_trees.specs.declared.program.Expr.TheVariants as E;
@@ -15,10 +15,10 @@ ghost use Rattle.kn_program.specs.Reading.{tests_at, more_tests_at, test_at, neg
 ghost use Rattle.kn_program.specs.Reading.{chain_at, side_at, more_links_at, climb_at, first_at, operand_at, atom_at};
 
 use crate::operators::{has_operation, take_comparison, take_operation, take_prefix};
-use crate::signs::{Joint, Level, Prefix, height, joint_text, number_of, truth_of};
+use crate::signs::{Joint, Precedence, Prefix, height, joint_text, number_of, truth_of};
 use crate::tree::{apply_prefix, join_tests};
 use kn_base::List;
-use kn_fields::{Cursor, Unread};
+use kn_fields::{Cursor, GrammarFault};
 use kn_lex::{Sort, Token, literal};
 use kn_trees::{ExprStack, Operation};
 use std::alloc::Global;
@@ -32,11 +32,11 @@ pub(crate) fn tests(
     cursor: &mut Cursor<'_, '_>,
     joint: Joint,
     budget: u64,
-) -> Result<(), Unread>
+) -> Result<(), GrammarFault>
     ensures { Puts result (tests_at budget joint cursor.old) stack.old stack.new cursor.new }
 {
     if budget == 0 {
-        return Err(Unread::Syntax);
+        return Err(GrammarFault::Syntax);
     }
     test(alloc, stack, cursor, joint, budget - 1)?;
     if cursor.take_sign(joint_text(joint)) {
@@ -55,7 +55,7 @@ fn more_tests(
     cursor: &mut Cursor<'_, '_>,
     joint: Joint,
     budget: u64,
-) -> Result<(), Unread>
+) -> Result<(), GrammarFault>
     requires some { 0 < length stack.old }
     requires countable { budget + 1 < 2 ^ 64 }
     ensures { PutsBehind result (λ first. more_tests_at budget joint first cursor.old) stack.old stack.new cursor.new }
@@ -71,7 +71,7 @@ fn more_tests(
         }
         left -= 1;
     }
-    Err(Unread::Syntax)
+    Err(GrammarFault::Syntax)
 }
 
 /// One of the tests that stand between joints of this sort.
@@ -83,7 +83,7 @@ fn test(
     cursor: &mut Cursor<'_, '_>,
     joint: Joint,
     budget: u64,
-) -> Result<(), Unread>
+) -> Result<(), GrammarFault>
     ensures { Puts result (test_at budget joint cursor.old) stack.old stack.new cursor.new }
 {
     match joint {
@@ -101,11 +101,11 @@ fn negation(
     stack: &mut ExprStack,
     cursor: &mut Cursor<'_, '_>,
     budget: u64,
-) -> Result<(), Unread>
+) -> Result<(), GrammarFault>
     ensures { Puts result (negation_at budget cursor.old) stack.old stack.new cursor.new }
 {
     if budget == 0 {
-        return Err(Unread::Syntax);
+        return Err(GrammarFault::Syntax);
     }
     if cursor.take_sign(b"!".as_slice()) {
         denial(alloc, stack, cursor, budget - 1)
@@ -121,7 +121,7 @@ fn denial(
     stack: &mut ExprStack,
     cursor: &mut Cursor<'_, '_>,
     budget: u64,
-) -> Result<(), Unread>
+) -> Result<(), GrammarFault>
     ensures { Puts result (map_read E.Not (negation_at budget cursor.old)) stack.old stack.new cursor.new }
 {
     negation(alloc, stack, cursor, budget)?;
@@ -138,17 +138,17 @@ fn comparison(
     stack: &mut ExprStack,
     cursor: &mut Cursor<'_, '_>,
     budget: u64,
-) -> Result<(), Unread>
+) -> Result<(), GrammarFault>
     ensures { Puts result (comparison_at budget cursor.old) stack.old stack.new cursor.new }
 {
     if budget == 0 {
-        return Err(Unread::Syntax);
+        return Err(GrammarFault::Syntax);
     }
-    chain(alloc, stack, cursor, Level::Sum, budget - 1)?;
+    chain(alloc, stack, cursor, Precedence::Sum, budget - 1)?;
     let Some(sign) = take_comparison(cursor) else {
         return Ok(());
     };
-    chain(alloc, stack, cursor, Level::Sum, budget - 1)?;
+    chain(alloc, stack, cursor, Precedence::Sum, budget - 1)?;
     stack.compare(sign)?;
     Ok(())
 }
@@ -163,14 +163,14 @@ fn chain(
     alloc: Global,
     stack: &mut ExprStack,
     cursor: &mut Cursor<'_, '_>,
-    level: Level,
+    level: Precedence,
     budget: u64,
-) -> Result<(), Unread>
+) -> Result<(), GrammarFault>
     ensures { Puts result (chain_at budget level cursor.old) stack.old stack.new cursor.new }
 {
     let levels = height(level);
     if budget < levels {
-        return Err(Unread::Syntax);
+        return Err(GrammarFault::Syntax);
     }
     operand(alloc, stack, cursor, budget - levels)?;
     climb(alloc, stack, cursor, level, budget)
@@ -184,9 +184,9 @@ fn climb(
     alloc: Global,
     stack: &mut ExprStack,
     cursor: &mut Cursor<'_, '_>,
-    level: Level,
+    level: Precedence,
     budget: u64,
-) -> Result<(), Unread>
+) -> Result<(), GrammarFault>
     requires some { 0 < length stack.old }
     requires enough { height level ≤ budget }
     ensures { PutsBehind result (λ operand. climb_at budget level operand cursor.old) stack.old stack.new cursor.new }
@@ -205,9 +205,9 @@ fn operations(
     alloc: Global,
     stack: &mut ExprStack,
     cursor: &mut Cursor<'_, '_>,
-    level: Level,
+    level: Precedence,
     budget: u64,
-) -> Result<(), Unread>
+) -> Result<(), GrammarFault>
     requires some { 0 < length stack.old }
     requires enough { height level ≤ budget }
     ensures { PutsBehind result (λ operand. climb_at budget level operand cursor.old) stack.old stack.new cursor.new }
@@ -225,17 +225,17 @@ fn first_side(
     alloc: Global,
     stack: &mut ExprStack,
     cursor: &mut Cursor<'_, '_>,
-    level: Level,
+    level: Precedence,
     budget: u64,
-) -> Result<(), Unread>
+) -> Result<(), GrammarFault>
     requires some { 0 < length stack.old }
     requires enough { height level ≤ budget + 1 }
     ensures { PutsBehind result (λ operand. first_at budget level operand cursor.old) stack.old stack.new cursor.new }
 {
     match level {
-        Level::Sum => climb(alloc, stack, cursor, Level::Product, budget),
-        Level::Product => climb(alloc, stack, cursor, Level::Power, budget),
-        Level::Power => Ok(()),
+        Precedence::Sum => climb(alloc, stack, cursor, Precedence::Product, budget),
+        Precedence::Product => climb(alloc, stack, cursor, Precedence::Power, budget),
+        Precedence::Power => Ok(()),
     }
 }
 
@@ -246,10 +246,10 @@ fn links(
     alloc: Global,
     stack: &mut ExprStack,
     cursor: &mut Cursor<'_, '_>,
-    level: Level,
+    level: Precedence,
     sign: Operation,
     budget: u64,
-) -> Result<(), Unread>
+) -> Result<(), GrammarFault>
     requires some { 0 < length stack.old }
     ensures { PutsBehind result
         (λ first. more_links_at budget level first sign cursor.old) stack.old stack.new cursor.new }
@@ -267,7 +267,7 @@ fn links(
         sign = next;
         left -= 1;
     }
-    Err(Unread::Syntax)
+    Err(GrammarFault::Syntax)
 }
 
 /// A side of the operations of a level.
@@ -276,15 +276,15 @@ fn side(
     alloc: Global,
     stack: &mut ExprStack,
     cursor: &mut Cursor<'_, '_>,
-    level: Level,
+    level: Precedence,
     budget: u64,
-) -> Result<(), Unread>
+) -> Result<(), GrammarFault>
     ensures { Puts result (side_at budget level cursor.old) stack.old stack.new cursor.new }
 {
     match level {
-        Level::Sum => chain(alloc, stack, cursor, Level::Product, budget),
-        Level::Product => chain(alloc, stack, cursor, Level::Power, budget),
-        Level::Power => operand(alloc, stack, cursor, budget),
+        Precedence::Sum => chain(alloc, stack, cursor, Precedence::Product, budget),
+        Precedence::Product => chain(alloc, stack, cursor, Precedence::Power, budget),
+        Precedence::Power => operand(alloc, stack, cursor, budget),
     }
 }
 
@@ -297,11 +297,11 @@ fn operand(
     stack: &mut ExprStack,
     cursor: &mut Cursor<'_, '_>,
     budget: u64,
-) -> Result<(), Unread>
+) -> Result<(), GrammarFault>
     ensures { Puts result (operand_at budget cursor.old) stack.old stack.new cursor.new }
 {
     if budget == 0 {
-        return Err(Unread::Syntax);
+        return Err(GrammarFault::Syntax);
     }
     match take_prefix(cursor) {
         Some(prefix) => signed_operand(alloc, stack, cursor, prefix, budget - 1),
@@ -317,7 +317,7 @@ fn signed_operand(
     cursor: &mut Cursor<'_, '_>,
     prefix: Prefix,
     budget: u64,
-) -> Result<(), Unread>
+) -> Result<(), GrammarFault>
     ensures { Puts result (map_read (prefixed prefix) (operand_at budget cursor.old)) stack.old stack.new cursor.new }
 {
     operand(alloc, stack, cursor, budget)?;
@@ -327,8 +327,12 @@ fn signed_operand(
 
 /// Puts the expression of one token on the stack, and gives whether the token spells one.
 #[inline(always)]
-fn put_constant(alloc: Global, stack: &mut ExprStack, token: &Token<'_>) -> Result<bool, Unread>
-    ensures { PutsWord result (word_of (seen token.now)) stack.old stack.new }
+fn put_constant(
+    alloc: Global,
+    stack: &mut ExprStack,
+    token: &Token<'_>,
+) -> Result<bool, GrammarFault>
+    ensures { PutsWord result (word_of (token_view token.now)) stack.old stack.new }
 {
     match token.sort {
         Sort::Text => {
@@ -363,14 +367,14 @@ fn atom(
     stack: &mut ExprStack,
     cursor: &mut Cursor<'_, '_>,
     budget: u64,
-) -> Result<(), Unread>
+) -> Result<(), GrammarFault>
     ensures { Puts result (atom_at budget cursor.old) stack.old stack.new cursor.new }
 {
     if budget == 0 {
-        return Err(Unread::Syntax);
+        return Err(GrammarFault::Syntax);
     }
     let Some(token) = cursor.peek() else {
-        return Err(Unread::Syntax);
+        return Err(GrammarFault::Syntax);
     };
     if put_constant(alloc, stack, token)? {
         cursor.step();

@@ -1,5 +1,5 @@
 //! The faults of a Conditions field.
-use kn_fields::Unread;
+use kn_fields::GrammarFault;
 
 /// Why the tokens of a Conditions field are no program. The faults, their order and their numbers are keynoted's own.
 #[derive(Clone, Copy, PartialEq, Eq)]
@@ -12,16 +12,16 @@ pub enum ProgramFault {
     NoMemory,
 }
 
-impl From<Unread> for ProgramFault {
+impl From<GrammarFault> for ProgramFault {
     ghost use Rattle.std.specs.Prelude.{◌≡◌};
-    ghost use Rattle.kn_program.specs.Conditions.{of_unread};
+    ghost use Rattle.kn_program.specs.Conditions.{of_grammar_fault};
 
-    ghost from_gives = { λ unread fault. fault ≡ of_unread unread };
+    ghost from_gives = { λ grammar_fault fault. fault ≡ of_grammar_fault grammar_fault };
 
-    fn from(unread: Unread) -> ProgramFault {
-        match unread {
-            Unread::Syntax => ProgramFault::Syntax,
-            Unread::NoMemory => ProgramFault::NoMemory,
+    fn from(grammar_fault: GrammarFault) -> ProgramFault {
+        match grammar_fault {
+            GrammarFault::Syntax => ProgramFault::Syntax,
+            GrammarFault::NoMemory => ProgramFault::NoMemory,
         }
     }
 }

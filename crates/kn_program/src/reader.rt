@@ -1,7 +1,7 @@
 //! Reading a Conditions field.
 ghost use Rattle.std.specs.Prelude.{◌≡◌, ◌+◌, ◌≤◌, ◌<◌, ◌⊎◌, Option, IfOk, IfErr, IfSome, length, true};
 ghost use Rattle.kn_trees.specs.Kinds.{is_well_kinded};
-ghost use Rattle.kn_trees.specs.Levels.{program_depth};
+ghost use Rattle.kn_trees.specs.Depths.{program_depth};
 ghost use Rattle.kn_fields.specs.Fields.{tokens_of_part};
 ghost use Rattle.kn_fields.specs.Depth.{IsTooDeep};
 ghost use Rattle.kn_trees.specs.declared.program.Program.{Program};
@@ -60,7 +60,7 @@ fn read_conditions(
     }
     let program = match program(alloc, &mut cursor) {
         Ok(program) => program,
-        Err(unread) => return Err(ProgramFault::from(unread)),
+        Err(grammar_fault) => return Err(ProgramFault::from(grammar_fault)),
     };
     if is_well_kinded(&program) {
         Ok(Some(program))

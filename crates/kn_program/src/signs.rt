@@ -3,7 +3,7 @@ ghost use Rattle.std.specs.Prelude.{◌≡◌, ◌≤◌, false, None, IfSome};
 ghost use Rattle.kn_base.specs.declared.limits.TheConstants.{WHOLE_NUMBER};
 ghost use Rattle.kn_program.specs.Signs.{joint_text, height, operation_of};
 ghost use Rattle.kn_program.specs.Signs.{comparison_of, prefix_of, truth_of, number_of};
-ghost use Rattle.kn_program.specs.declared.signs.Level.{Level as Tier};
+ghost use Rattle.kn_program.specs.declared.signs.Precedence.{Precedence};
 
 use kn_base::digits_within;
 use kn_base::limits::WHOLE_NUMBER;
@@ -20,7 +20,7 @@ pub enum Joint {
 
 /// A level of the grammar whose operations group to the left, the loosest first.
 #[derive(Clone, Copy, PartialEq, Eq)]
-pub enum Level {
+pub enum Precedence {
     /// `+`, `-` and `.`
     Sum,
     /// `*`, `/` and `%`
@@ -42,13 +42,13 @@ pub enum Prefix {
 
 /// How many levels an operand is below this one.
 #[inline(always)]
-pub(crate) fn height(level: Level) -> u64
+pub(crate) fn height(level: Precedence) -> u64
     ensures { result ≡ height level }
 {
     match level {
-        Level::Sum => 3,
-        Level::Product => 2,
-        Level::Power => 1,
+        Precedence::Sum => 3,
+        Precedence::Product => 2,
+        Precedence::Power => 1,
     }
 }
 
@@ -65,23 +65,23 @@ pub(crate) fn joint_text(joint: Joint) -> &'static [u8]
 /// The operation of a level that a sign stands for.
 #[inline(always)]
 #[tactic(auto, unfolding(crate::specs::Signs::operation_of))]
-pub(crate) fn operation_of(level: Level, text: &[u8]) -> Option<Operation>
+pub(crate) fn operation_of(level: Precedence, text: &[u8]) -> Option<Operation>
     ensures { result ≡ operation_of level text.now }
 {
     match level {
-        Level::Sum => match text {
+        Precedence::Sum => match text {
             [b'+'] => Some(Operation::Plus),
             [b'-'] => Some(Operation::Less),
             [b'.'] => Some(Operation::Join),
             _ => None,
         },
-        Level::Product => match text {
+        Precedence::Product => match text {
             [b'*'] => Some(Operation::Times),
             [b'/'] => Some(Operation::Divide),
             [b'%'] => Some(Operation::Rest),
             _ => None,
         },
-        Level::Power => match text {
+        Precedence::Power => match text {
             [b'^'] => Some(Operation::Power),
             _ => None,
         },
@@ -90,15 +90,15 @@ pub(crate) fn operation_of(level: Level, text: &[u8]) -> Option<Operation>
 
 /// Whether a sign stands for an operation of a level or of a tighter one.
 #[inline(always)]
-pub(crate) fn is_operation(level: Level, text: &[u8]) -> bool
-    ensures { result ≡ false → (tier : Tier) → height tier ≤ height level → operation_of tier text.now ≡ None }
+pub(crate) fn is_operation(level: Precedence, text: &[u8]) -> bool
+    ensures { result ≡ false → (tier : Precedence) → height tier ≤ height level → operation_of tier text.now ≡ None }
 {
-    let power = operation_of(Level::Power, text).is_some();
-    let product = power || operation_of(Level::Product, text).is_some();
+    let power = operation_of(Precedence::Power, text).is_some();
+    let product = power || operation_of(Precedence::Product, text).is_some();
     match level {
-        Level::Power => power,
-        Level::Product => product,
-        Level::Sum => product || operation_of(Level::Sum, text).is_some(),
+        Precedence::Power => power,
+        Precedence::Product => product,
+        Precedence::Sum => product || operation_of(Precedence::Sum, text).is_some(),
     }
 }
 

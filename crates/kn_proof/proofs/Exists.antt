@@ -24,7 +24,7 @@ use Rattle.kn_proof.proofs.Lines.{front_words, header_words, no_count, no_header
 use Rattle.kn_proof.proofs.Lines.{no_row_form, no_row_value, no_value, no_version, not_closed, row_of_words, row_words}
 use Rattle.kn_proof.proofs.Numerals.{numeral_written, short_value}
 use Rattle.kn_proof.proofs.Quotes.{unquoted_of}
-use Rattle.kn_proof.proofs.Whole.{fault_from, reply_from}
+use Rattle.kn_proof.proofs.WholeReplies.{fault_from, reply_from}
 
 -- the words of a line 1, and what is behind it
 record HasHeaderWords (text : List ℕ) : Type 0 where

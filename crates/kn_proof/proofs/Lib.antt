@@ -1,10 +1,10 @@
 pub mod Numerals
 pub mod Quotes
 pub mod Lines
-pub mod Written
-pub mod Only
-pub mod Whole
+pub mod LineTexts
+pub mod OneReplyOrFault
+pub mod WholeReplies
 pub mod OneLine
 pub mod Exists
 pub mod Sizes
-pub mod Scanned
+pub mod ScanLaws

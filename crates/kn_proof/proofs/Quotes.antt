@@ -192,8 +192,7 @@ unquoted_none text none = record {
   rest = text;
   spelled = refl;
   bytes = All-nil (λ c. c < 256);
-  all =
-      none;
+  all = none;
 }
 
 shorter : (text : List ℕ) (begins : BeginsQuoted text) → length begins.rest < length text

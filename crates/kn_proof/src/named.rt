@@ -4,7 +4,9 @@ use kn_base::Octets;
 /// Which assertion: a shared credential or a private one, by its number, counted from 1.
 #[derive(Clone, Copy, PartialEq, Eq, Drop)]
 pub enum Id {
+    /// The shared credential `a1`, `a2` and so on, by the number behind the letter.
     Shared(u32),
+    /// The session's private assertion `p1`, `p2` and so on, by the number behind the letter.
     Private(u32),
 }
 

@@ -17,7 +17,7 @@ pub(crate) struct Quoted<'a> {
 }
 
 /// The bytes that are quoted at the front of a text, as many as there are.
-pub(crate) fn unquoted(alloc: Global, text: &[u8]) -> Result<Quoted<'_>, NoMemory>
+pub(crate) fn read_quoted(alloc: Global, text: &[u8]) -> Result<Quoted<'_>, NoMemory>
     ensures spelled { IfOk result (λ quoted. text.now ≡ flat_map quoted_byte quoted.principal ++ quoted.rest.now) }
     ensures bytes { IfOk result (λ quoted. AreBytes quoted.principal) }
     ensures all { IfOk result (λ quoted. HasNoByte quoted.rest.now) }
@@ -57,7 +57,7 @@ fn first_byte(text: &[u8]) -> Option<(u8, &[u8])>
         return None;
     };
     if *byte == b'\\' {
-        return escaped(behind);
+        return read_escape(behind);
     }
     if is_plain(*byte) {
         Some((*byte, behind))
@@ -74,7 +74,7 @@ fn is_plain(byte: u8) -> bool
 }
 
 /// The byte that is quoted by a backslash and the front of a text, and what is behind.
-fn escaped(text: &[u8]) -> Option<(u8, &[u8])>
+fn read_escape(text: &[u8]) -> Option<(u8, &[u8])>
     ensures some { IfSome result (λ first. 92 ∷ text.now ≡ quoted_byte first.0 ++ first.1.now) }
     ensures none { IfNone result (HasNoByte (92 ∷ text.now)) }
 {

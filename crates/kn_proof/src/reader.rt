@@ -33,8 +33,8 @@ pub fn read_reply(alloc: Global, text: &[u8]) -> Result<ReadReply, ProofFault>
     // The text of a reply is read, and it is that of no other.
     ensures only { (reply : ReadReply) → IsReplyText text.now reply
         → MatchResult result (λ read. read ≡ reply) (λ fault. fault ≡ F.NoMemory) }
-    // And a first fault is told.
-    ensures told { (fault : ProofFault) → IsFirstFault text.now fault
+    // And a first fault is given.
+    ensures exact { (fault : ProofFault) → IsFirstFault text.now fault
         → MatchResult result (λ read. ⊥) (λ told. told ≡ fault) }
 {
     match scan_reply(text) {

@@ -32,6 +32,7 @@ pub struct ReadReply {
 impl ReadReply {
     ghost use Rattle.kn_proof.specs.Reading.{IsHeadOf};
 
+    /// What line 1 of the reply has beside the number of its rows.
     pub fn head(&self) -> ReplyHead<'_>
         ensures { IsHeadOf self.now result.value result.name.now result.version }
     {

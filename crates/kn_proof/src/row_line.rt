@@ -9,7 +9,7 @@ ghost use Rattle.kn_proof.specs.declared.fault.ProofFault.TheVariants as F;
 
 use crate::fault::ProofFault;
 use crate::named::{Id, NamedRow};
-use crate::quoted::{behind_quoted, unquoted};
+use crate::quoted::{behind_quoted, read_quoted};
 use crate::text::{is_numeral, number, small_number};
 use kn_base::NoMemory;
 use kn_base::text::{behind, cut};
@@ -50,7 +50,7 @@ pub(crate) fn read_row(alloc: Global, n: usize, text: &[u8]) -> Result<RowLine<'
         Ok(line) => line,
         Err(fault) => return Err(fault),
     };
-    match unquoted(alloc, line.quoted) {
+    match read_quoted(alloc, line.quoted) {
         Ok(quoted) => Ok(RowLine {
             row: NamedRow {
                 value: line.value,

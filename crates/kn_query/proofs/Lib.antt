@@ -1,5 +1,5 @@
 pub mod Texts
 pub mod SharedParts
-pub mod Later
+pub mod LaterVersions
 pub mod Rows
-pub mod Kept
+pub mod KeptBaseLaws

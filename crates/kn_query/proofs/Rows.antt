@@ -25,7 +25,7 @@ use Rattle.kn_answer.specs.Based.{BaseView, IsBaseOf}
 use Rattle.kn_answer.specs.Removed.{live_parts}
 use Rattle.kn_query.specs.Following.{AreAbove, AreUpTo, FollowsRemovals, live_credentials, without_removed}
 use Rattle.kn_query.specs.SharedParts.{AreRead}
-use Rattle.kn_query.proofs.Later.{above-lower, without-none, without-then}
+use Rattle.kn_query.proofs.LaterVersions.{above-lower, without-none, without-then}
 use Rattle.kn_query.proofs.Texts.{found}
 
 -- Lists from a place on.

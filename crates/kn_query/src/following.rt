@@ -44,6 +44,7 @@ fn remove_row(base: &mut Base, rows: &SharedRows, id: u32)
     requires flags { length base.old.live ≡ length rows.now }
     ensures { FollowsRemovals (record { change = Remove; id = id } ∷ []) rows.now base.old base.new }
 {
+    // The contract of `len` says that the ids of the rows ascend, so one row at most is of this id.
     let _ids = rows.len();
     match rows.find(id) {
         Some(row) => base.remove(row),

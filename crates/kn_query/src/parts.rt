@@ -27,6 +27,7 @@ pub(crate) fn parts_of_view<'a>(alloc: Global, view: &View<'a>) -> Result<List<P
 {
     assertions_of_a_session();
     let version: &'a Version = view.snapshot;
+    // The contract of `len` says that the credentials are within their limits, and that their ids ascend.
     let _live = version.len();
     let mut parts = List::new(alloc);
     push_shared(&mut parts, version, 0)?;

@@ -64,6 +64,7 @@ impl SharedBase {
         assertions_of_a_session();
         kn_assert::laws::readings_are_computed();
         kn_assert::laws::readings_are_sound();
+        // The contract of `len` says that the credentials are within their limits, and that their ids ascend.
         let _live = version.len();
         let mut parts = List::new(alloc);
         push_shared(&mut parts, version, 0)?;
@@ -128,6 +129,7 @@ impl SharedBase {
         kn_assert::laws::readings_are_computed();
         kn_assert::laws::readings_are_sound();
         let number = version.number();
+        // The contract of `len` says that the credentials are within their limits, and that their ids ascend.
         let _live = version.len();
         let mut parts = List::new(alloc);
         push_shared(&mut parts, version, kept)?;
@@ -137,6 +139,7 @@ impl SharedBase {
             number: _,
             most,
         } = self;
+        // The contract of `len` says that the texts of the rows have readings, and that their ids ascend.
         let _ids = rows.len();
         let before = base.principals();
         let base = base.extend_all(alloc, &parts)?;
@@ -163,7 +166,9 @@ impl SharedBase {
         ensures credentials { (version : ListOf Update) → HasCredentials version self.old
             → HasCredentials version self.new }
     {
+        // The contract of `requesters` says that there are 64 at most, each of 1 to 4,096 bytes, and none `POLICY`.
         let _requesters = query.requesters();
+        // The contract of `len` says that the texts of the rows have readings.
         let _read = self.rows.len();
         self.base.answer(alloc, query, &self.rows)
     }
@@ -193,6 +198,7 @@ impl SharedBase {
     {
         kn_assert::laws::readings_are_computed();
         kn_assert::laws::readings_are_sound();
+        // The contract of `requesters` says that there are 64 at most, each of 1 to 4,096 bytes, and none `POLICY`.
         let _requesters = query.requesters();
         let mut parts = List::new(alloc);
         push_private(&mut parts, privates)?;
@@ -202,6 +208,7 @@ impl SharedBase {
             number,
             most,
         } = self;
+        // The contract of `len` says that the texts of the rows have readings.
         let _read = rows.len();
         let (answer, base) = base.answer_with(alloc, query, &rows, &parts)?;
         Ok((

@@ -87,6 +87,7 @@ impl SharedRows {
         requires { IdsAscend 0 (self.old ++ row ∷ []) }
         ensures { OnOk result (self.new ≡ self.old ++ row ∷ []) }
     {
+        // The contract of `assertion` says that the text of the row has a reading.
         let _read = row.assertion();
         match self.rows.push(row) {
             Ok(()) => Ok(()),

@@ -10,12 +10,12 @@ read_nothing None = tt
 read_nothing (Some bytes) = refl
 
 -- one more piece is read
-pub read_piece : (a b c : Option (List ℕ)) (content piece : List ℕ) → Consumes a b content → Consumes b c piece
+pub read_chunk : (a b c : Option (List ℕ)) (content piece : List ℕ) → Consumes a b content → Consumes b c piece
     → Consumes a c (content ++ piece)
-read_piece None b c content piece first last = tt
-read_piece (Some x) None c content piece first last = absurd first
-read_piece (Some x) (Some y) None content piece first last = absurd last
-read_piece (Some x) (Some y) (Some z) content piece first last = first ∙ ap (λ (l : List ℕ). content ++ l) last
+read_chunk None b c content piece first last = tt
+read_chunk (Some x) None c content piece first last = absurd first
+read_chunk (Some x) (Some y) None content piece first last = absurd last
+read_chunk (Some x) (Some y) (Some z) content piece first last = first ∙ ap (λ (l : List ℕ). content ++ l) last
     ∙ sym (append_assoc content piece z)
 
 -- what was read to the end is all that there was

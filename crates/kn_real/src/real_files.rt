@@ -16,7 +16,7 @@ use std::io::{self, ErrorKind, Read};
 use std::str;
 
 /// The bytes that a file is asked for at once.
-const PIECE: usize = 16_384;
+const FILE_CHUNK_BYTES: usize = 16_384;
 
 /// The files of the system. A name is a path, from the folder in which the program was started.
 #[derive(Drop)]
@@ -97,9 +97,9 @@ fn read_to_limit<R: Read>(alloc: Global, reader: &mut R) -> Result<Octets, FileF
         → IfSome (R.remaining reader.old) (λ bytes. FILE_BYTES < length bytes) }
 {
     let mut content = Octets::new(alloc);
-    let mut buf = [0; PIECE];
+    let mut buf = [0; FILE_CHUNK_BYTES];
     while content.len() <= FILE_BYTES {
-        let room = PIECE.min(FILE_BYTES + 1 - content.len());
+        let room = FILE_CHUNK_BYTES.min(FILE_BYTES + 1 - content.len());
         let bytes = match read_some(reader, buf.split_at_mut(room).0) {
             Ok(bytes) => bytes,
             Err(error) => return Err(fault_of(&error)),

@@ -29,13 +29,13 @@ pub(crate) fn read_some<R: Read>(reader: &mut R, buf: &mut [u8]) -> io::Result<u
 }
 
 /// The bytes that are read at once at most.
-pub(crate) const PIECE: usize = 4_096;
+pub(crate) const LINK_CHUNK_BYTES: usize = 4_096;
 
 /// Reads once into a buffer by way of a piece, and again where a signal interrupts that. A failed read leaves the
 /// buffer as it was.
 pub(crate) fn read_into<R: Read>(
     reader: &mut R,
-    piece: &mut [u8; PIECE],
+    piece: &mut [u8; LINK_CHUNK_BYTES],
     buf: &mut [u8],
 ) -> io::Result<usize>
     requires { 0 < length buf.old }
@@ -45,7 +45,7 @@ pub(crate) fn read_into<R: Read>(
     ensures buffer { OnErr result (buf.new ≡ buf.old) }
 {
     // What a failed read leaves in its buffer isn't known, and neither is what stands behind the bytes that were read.
-    let room = PIECE.min(buf.len());
+    let room = LINK_CHUNK_BYTES.min(buf.len());
     let bytes = read_some(reader, piece.split_at_mut(room).0)?;
     buf.split_at_mut(bytes)
         .0

@@ -3,7 +3,7 @@ ghost use Rattle.std.specs.Prelude.{◌≡◌, ◌≤◌, ◌<◌, drop, length,
 ghost use Rattle.std.specs.Io.KnownBytes.{ReadConsumes, WriteAppends};
 ghost use Rattle.kn_outside.specs.Faults.{raised};
 
-use crate::retry::{PIECE, read_into};
+use crate::retry::{LINK_CHUNK_BYTES, read_into};
 use crate::std_out::StdOut;
 use kn_outside::{Failed, Link, Sink};
 use std::io::{Read, Write};
@@ -12,7 +12,7 @@ use std::io::{Read, Write};
 #[derive(Drop)]
 pub struct StdLink<I: Read, O: Write> {
     input: I,
-    piece: [u8; PIECE],
+    piece: [u8; LINK_CHUNK_BYTES],
     out: StdOut<O>,
 }
 
@@ -25,7 +25,7 @@ impl<I: Read, O: Write> StdLink<I, O> {
     {
         StdLink {
             input,
-            piece: [0; PIECE],
+            piece: [0; LINK_CHUNK_BYTES],
             out: StdOut::new(output),
         }
     }

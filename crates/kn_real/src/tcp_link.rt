@@ -3,7 +3,7 @@ ghost use Rattle.std.specs.Prelude.{◌≡◌, ◌≤◌, ◌<◌, drop, length,
 ghost use Rattle.kn_outside.specs.Faults.{raised};
 
 use crate::gathered::Gathered;
-use crate::retry::{PIECE, read_into};
+use crate::retry::{LINK_CHUNK_BYTES, read_into};
 use kn_outside::{Failed, Link, Sink};
 use std::alloc::Global;
 use std::marker::Model;
@@ -16,7 +16,7 @@ use std::time::Duration;
 /// A call in which that fails has failed. Where it fails when the link is dropped, only the peer can miss something.
 pub struct TcpLink {
     stream: TcpStream,
-    piece: [u8; PIECE],
+    piece: [u8; LINK_CHUNK_BYTES],
     gathered: Gathered,
     faults: u64,
 }
@@ -56,7 +56,7 @@ impl TcpLink {
         }
         TcpLink {
             stream,
-            piece: [0; PIECE],
+            piece: [0; LINK_CHUNK_BYTES],
             gathered: Gathered::new(alloc),
             faults: 0,
         }

@@ -1,4 +1,4 @@
-//! How the faults of the parts are told: each is the refusal that the daemon's definitions give it. A fault that
+//! How the faults of the parts are reported: each is the refusal that the daemon's definitions give it. A fault that
 //! means out of memory has none.
 #![tactic(auto)]
 

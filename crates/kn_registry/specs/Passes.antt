@@ -115,7 +115,7 @@ RefusesOne old new texts place fault = Refuses (λ f. IsOneRefused old new texts
 abbrev pub RefusesId : PassSeen → PassSeen → ℕ → StoreFault → Type 0
 RefusesId old new id fault = Refuses (λ f. IsRefused (refusal_of_id (all_changes new.seen) id) f old new) old new fault
 
--- the items were made one update, which is in this version; told are the id of its first addition, or the one that the
+-- the items were made one update, which is in this version; given are the id of its first addition, or the one that the
 -- next addition has, and how many additions it has
 pub record Batches (old new : PassSeen) (items : List Item) (batched : Batched) : Type 0 where
   pub commits : Commits old new (batch_by old.number batched.first items) batched.version

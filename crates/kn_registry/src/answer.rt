@@ -14,7 +14,7 @@ pub struct Batched {
 /// Why an older version isn't given.
 #[derive(Clone, Copy, PartialEq, Eq, Drop)]
 pub enum PinFault {
-    /// The version isn't retained: it is above the newest, whose number is told, or too far below it.
+    /// The version isn't retained: it is above the newest, whose number is given, or too far below it.
     Missing { newest: u32 },
     /// Out of memory.
     NoMemory,

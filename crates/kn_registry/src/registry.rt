@@ -190,7 +190,7 @@ impl Registry {
     }
 
     /// Adds texts, each by an update of its own, at one turn; or none of them where one is refused: then its place is
-    /// told, counted from 0.
+    /// given, counted from 0.
     ///
     /// A refusal is that behind the texts in front of the refused one, so a limit's number counts them too. When
     /// out of memory, the place tells nothing.
@@ -198,16 +198,16 @@ impl Registry {
         &self,
         rt: &R,
         pass: &mut Pass,
-        readies: Vec<Ready>,
+        ready_texts: Vec<Ready>,
     ) -> Result<(), (u32, StoreFault)>
         requires ready { IsReady self.now pass.old }
         ensures ready { IsReady self.now pass.new }
         ensures sound { IsSoundPass pass.new }
-        ensures added { OnOk result (AddsAll pass.old pass.new readies.items) }
-        ensures refused { IfErr result (λ refused. RefusesOne pass.old pass.new readies.items refused.0 refused.1) }
+        ensures added { OnOk result (AddsAll pass.old pass.new ready_texts.items) }
+        ensures refused { IfErr result (λ refused. RefusesOne pass.old pass.new ready_texts.items refused.0 refused.1) }
     {
         let mut shared = self.turn.take(rt, pass);
-        match shared.book.add_all(pass.number(), readies) {
+        match shared.book.add_all(pass.number(), ready_texts) {
             Ok(()) => {
                 self.append_all(pass, shared);
                 Ok(())
@@ -241,7 +241,7 @@ impl Registry {
         }
     }
 
-    /// Makes these changes one update, or none of them where one is refused: then its number is told, counted from 1.
+    /// Makes these changes one update, or none of them where one is refused: then its number is given, counted from 1.
     ///
     /// A refusal is that behind the changes in front of the refused one, so a limit's number counts them too.
     pub fn batch<R: Wait>(

@@ -42,7 +42,7 @@ word_text W.Updates = codes "updates"
 word_text W.LogBytes = codes "log-bytes"
 word_text W.Nodes = codes "nodes"
 
--- the refusal of an item of a batch, as it would be told of a request
+-- the refusal of an item of a batch, as it would be reported of a request
 abbrev pub item_refusal_text : ItemRefusal → List ℕ
 item_refusal_text (I.Read fault place) = codes "5 read " ++ decimal fault ++ 32 ∷ decimal place
 item_refusal_text (I.Auth fault) = codes "7 auth " ++ decimal fault

@@ -11,11 +11,14 @@ use kn_store::Snapshot;
 /// assertion behind its letter.
 #[derive(Clone, Copy)]
 pub enum Reply<'a> {
+    /// The request was done, and there is nothing else to report.
     Ok,
+    /// A session was opened, pinned to this version.
     Started {
         s: u32,
         version: u32,
     },
+    /// A session was pinned to this version, or a removal made it.
     Number {
         version: u32,
     },
@@ -65,6 +68,8 @@ pub enum Reply<'a> {
         index: u8,
         ids: &'a List<Id>,
     },
+    /// The request is refused, and changed nothing.
     No(Refusal),
+    /// Out of memory for the request, which changed nothing.
     NoMemory,
 }

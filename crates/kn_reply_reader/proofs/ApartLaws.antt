@@ -10,7 +10,7 @@ use Rattle.kn_reply.specs.Replies.{Reply, Done, Started, Number, PrivateAdded, A
 use Rattle.kn_reply.specs.Replies.{News, Critical, No, NoMemory, reply_text}
 use Rattle.kn_reply_reader.specs.Forms.{filled, IsOfOneForm}
 use Rattle.kn_reply_reader.specs.OneLineForms.{one_line_forms}
-use Rattle.kn_reply_reader.specs.Kinds.{Kind, OneLine, Proved, Logged, Told, Needed, kind_of, IsTextOf}
+use Rattle.kn_reply_reader.specs.Kinds.{Kind, OneLine, Proved, LogKind, NewsKind, CriticalKind, kind_of, IsTextOf}
 use Rattle.kn_reply_reader.specs.Apart.{RepliesAreApart}
 use Rattle.kn_reply_reader.proofs.Written.{written_is}
 use Rattle.kn_reply_reader.proofs.FormLaws.{filled_number, filled_byte}
@@ -90,7 +90,8 @@ one_line_apart a b r s is is' =
 -- The kind is told by the first two bytes.
 
 abbrev kind_by : ℕ → ℕ → Kind
-kind_by a b = cond (a == 86) Proved (cond (a == 76) Logged (cond (a == 67) Needed (cond (b == 69) Told OneLine)))
+kind_by a b = cond (a == 86) Proved
+    (cond (a == 76) LogKind (cond (a == 67) CriticalKind (cond (b == 69) NewsKind OneLine)))
 
 abbrev front_kind : List ℕ → Kind
 front_kind text = kind_by (get_or text 0 0) (get_or text 1 0)
@@ -114,9 +115,9 @@ same_kind : (left : List ℕ) (kind : Kind) (a b r s : List ℕ) → length left
     → left ≡ a ++ r → left ≡ b ++ s → a ≡ b
 same_kind left OneLine a b r s small is is' e e' = one_line_apart a b r s is is' (sym e ∙ e')
 same_kind left Proved a b r s small is is' e e' = (value_apart a b r s is is' (sym e ∙ e')).0
-same_kind left Logged a b r s small is is' e e' = (log_apart a b r s is is' (sym e ∙ e')).0
-same_kind left Told a b r s small is is' e e' = (news_apart a b r s is is' (sym e ∙ e')).0
-same_kind left Needed a b r s small is is' e e' = critical_apart left a b r s small is is' e e'
+same_kind left LogKind a b r s small is is' e e' = (log_apart a b r s is is' (sym e ∙ e')).0
+same_kind left NewsKind a b r s small is is' e e' = (news_apart a b r s is is' (sym e ∙ e')).0
+same_kind left CriticalKind a b r s small is is' e e' = critical_apart left a b r s small is is' e e'
 
 pub replies_apart : RepliesAreApart
 replies_apart left reply other small is is' =

@@ -98,8 +98,7 @@ pub one_more : (before line : List ℕ) → AreOtherLines before → IsOtherLine
 one_more before line others is = record {
   lines = others.lines ++ line ∷ [];
   each = All-push IsOtherLine others.lines line others.each is;
-  joined =
-      ap (λ (l : List ℕ). l ++ line) others.joined ∙ flat_map_more (λ (l : List ℕ). l) [] others.lines line;
+  joined = ap (λ (l : List ℕ). l ++ line) others.joined ∙ flat_map_more (λ (l : List ℕ). l) [] others.lines line;
 }
 
 pub begun : (text : List ℕ) → IsBehindOthers text text
@@ -114,8 +113,7 @@ passed text lines word rest at other cut clean = record {
     whole = record { front = word; spelled = refl; whole = clean };
     other = λ e. other rest (line ∙ ap (λ (l : List ℕ). l ++ rest) e);
   });
-  spelled =
-      at.spelled ∙ ap (λ (l : List ℕ). at.before ++ l) line ∙ sym (append_assoc at.before (word ++ 10 ∷ []) rest);
+  spelled = at.spelled ∙ ap (λ (l : List ℕ). at.before ++ l) line ∙ sym (append_assoc at.before (word ++ 10 ∷ []) rest);
 }
   where
     line : lines ≡ (word ++ 10 ∷ []) ++ rest

@@ -17,7 +17,7 @@ use Rattle.kn_reply.specs.Replies.{News, Critical, No, NoMemory, reply_text}
 use Rattle.kn_reply_reader.specs.Texts.{HasText, IsReadChange, IsReadUpdate}
 use Rattle.kn_reply_reader.specs.Numerals.{IsNumberAt, HasNoNumber}
 use Rattle.kn_reply_reader.specs.Fronts.{IsBehindOne, AreApart, TextOf, Items}
-use Rattle.kn_reply_reader.specs.Kinds.{Logged, IsTextOf, IsReadNumbered, IsShortId, IsShortText, addition_text}
+use Rattle.kn_reply_reader.specs.Kinds.{LogKind, IsTextOf, IsReadNumbered, IsShortId, IsShortText, addition_text}
 use Rattle.kn_reply_reader.specs.Kinds.{removal_text, kind_of}
 use Rattle.kn_reply_reader.proofs.Fronts.{Then, Just, Or, behind_same, apart_same, then_none, then_some, then_apart}
 use Rattle.kn_reply_reader.proofs.Fronts.{just_apart, just_none, just_some, or_first, or_second, items_apart}
@@ -455,7 +455,7 @@ log_form from place updates =
 log_whole : (n : ℕ) (history : List Update) → log_form n (length history) (log_part n history) ≡ log_text n history
 log_whole n history = simp append_assoc
 
-log_from : (text : List ℕ) → LogParts text → IsTextOf Logged text
+log_from : (text : List ℕ) → LogParts text → IsTextOf LogKind text
 log_from text is =
     let from = is.3.0 in
     let sent = is.3.3 in
@@ -492,10 +492,10 @@ log_from text is =
           ∙ log_whole from held.history;
     }
 
-log_to : (text : List ℕ) → IsTextOf Logged text → LogParts text
+log_to : (text : List ℕ) → IsTextOf LogKind text → LogParts text
 log_to text is = go is.reply is.has is.is is.same
   where
-    go : (reply : Reply) → HasText reply → kind_of reply ≡ Logged → text ≡ reply_text reply → LogParts text
+    go : (reply : Reply) → HasText reply → kind_of reply ≡ LogKind → text ≡ reply_text reply → LogParts text
     go (Log n history) has logged same =
         let updates = log_part n history in
         let place = length history in
@@ -558,85 +558,85 @@ sent_apart from count =
 from_apart : (from : ℕ) → AreApart (From from)
 from_apart from = counted_apart 999999999 32 (Sent from) (omega arith) (omega arith) (sent_apart from)
 
-pub log_apart : AreApart (IsTextOf Logged)
-log_apart = apart_same LogParts (IsTextOf Logged) log_to
+pub log_apart : AreApart (IsTextOf LogKind)
+log_apart = apart_same LogParts (IsTextOf LogKind) log_to
     (then_apart (Just (codes "LOG ")) (Counted 999999999 32 From) (just_apart (codes "LOG "))
     (counted_apart 999999999 32 From (omega arith) (omega arith) from_apart))
 
 module _ (left : List ℕ) where
-  pub log_none : ((rest : List ℕ) → left ≢ codes "LOG " ++ rest) → IsBehindOne (IsTextOf Logged) left None
+  pub log_none : ((rest : List ℕ) → left ≢ codes "LOG " ++ rest) → IsBehindOne (IsTextOf LogKind) left None
   log_none none =
-      behind_same LogParts (IsTextOf Logged) left None log_from log_to
+      behind_same LogParts (IsTextOf LogKind) left None log_from log_to
       (then_none (Just (codes "LOG ")) (Counted 999999999 32 From) left (just_none (codes "LOG ") left none))
 
   module _ (numbers : List ℕ) (first : left ≡ codes "LOG " ++ numbers) where
     behind_log : (found : Option (List ℕ)) → IsBehindOne (Counted 999999999 32 From) numbers found
-        → IsBehindOne (IsTextOf Logged) left found
+        → IsBehindOne (IsTextOf LogKind) left found
     behind_log found is =
-        behind_same LogParts (IsTextOf Logged) left found log_from log_to
+        behind_same LogParts (IsTextOf LogKind) left found log_from log_to
         (then_some (Just (codes "LOG ")) (Counted 999999999 32 From) left numbers found (just_apart (codes "LOG "))
         (just_some (codes "LOG ") left numbers first) is)
 
-    pub log_unnumbered : HasNoNumber 999999999 32 numbers → IsBehindOne (IsTextOf Logged) left None
+    pub log_unnumbered : HasNoNumber 999999999 32 numbers → IsBehindOne (IsTextOf LogKind) left None
     log_unnumbered none = behind_log None (counted_none 999999999 32 From (omega arith) (omega arith) numbers none)
 
     module _ (from : ℕ) (others : List ℕ) (at : IsNumberAt 999999999 32 numbers from others) where
       behind_from : (found : Option (List ℕ)) → IsBehindOne (From from) others found
-          → IsBehindOne (IsTextOf Logged) left found
+          → IsBehindOne (IsTextOf LogKind) left found
       behind_from found is =
           behind_log found (counted_some 999999999 32 From (omega arith) (omega arith) numbers others from found at is)
 
-      pub log_uncounted : HasNoNumber 999999999 32 others → IsBehindOne (IsTextOf Logged) left None
+      pub log_uncounted : HasNoNumber 999999999 32 others → IsBehindOne (IsTextOf LogKind) left None
       log_uncounted none =
           behind_from None (counted_none 999999999 32 (Sent from) (omega arith) (omega arith) others none)
 
       module _ (count : ℕ) (last : List ℕ) (at_count : IsNumberAt 999999999 32 others count last) where
         behind_count : (found : Option (List ℕ)) → IsBehindOne (Sent from count) last found
-            → IsBehindOne (IsTextOf Logged) left found
+            → IsBehindOne (IsTextOf LogKind) left found
         behind_count found is =
             behind_from found (counted_some 999999999 32 (Sent from) (omega arith) (omega arith) others last count found
             at_count is)
 
-        pub log_unplaced : HasNoNumber 999999999 10 last → IsBehindOne (IsTextOf Logged) left None
+        pub log_unplaced : HasNoNumber 999999999 10 last → IsBehindOne (IsTextOf LogKind) left None
         log_unplaced none =
             behind_count None (counted_none 999999999 10 (Placed from count) (omega arith) (omega arith) last none)
 
         module _ (place : ℕ) (updates : List ℕ) (at_place : IsNumberAt 999999999 10 last place updates) where
           behind_place : (found : Option (List ℕ)) → IsBehindOne (Placed from count place) updates found
-              → IsBehindOne (IsTextOf Logged) left found
+              → IsBehindOne (IsTextOf LogKind) left found
           behind_place found is =
               behind_count found
               (counted_some 999999999 10 (Placed from count) (omega arith) (omega arith) last updates place found
               at_place is)
 
-          pub log_other_count : count ≢ min 16 (place - from) → IsBehindOne (IsTextOf Logged) left None
+          pub log_other_count : count ≢ min 16 (place - from) → IsBehindOne (IsTextOf LogKind) left None
           log_other_count other =
               behind_place None (when_none (count ≡ min 16 (place - from)) (LogEnd count) updates other)
 
           module _ (size : count ≡ min 16 (place - from)) where
             behind_size_told : (found : Option (List ℕ)) → IsBehindOne (LogEnd count) updates found
-                → IsBehindOne (IsTextOf Logged) left found
+                → IsBehindOne (IsTextOf LogKind) left found
             behind_size_told found is =
                 behind_place found (when_some (count ≡ min 16 (place - from)) (LogEnd count) updates found size is)
 
             pub log_few : IsBehindOne (Items IsReadUpdate update_text count) updates None
-                → IsBehindOne (IsTextOf Logged) left None
+                → IsBehindOne (IsTextOf LogKind) left None
             log_few none = behind_size_told None
                 (then_none (Items IsReadUpdate update_text count) (Just (codes "END\n")) updates none)
 
             module _ (end : List ℕ) (items : IsBehindOne (Items IsReadUpdate update_text count) updates (Some end))
               where
                 behind_items : (found : Option (List ℕ)) → IsBehindOne (Just (codes "END\n")) end found
-                    → IsBehindOne (IsTextOf Logged) left found
+                    → IsBehindOne (IsTextOf LogKind) left found
                 behind_items found is =
                     behind_size_told found
                     (then_some (Items IsReadUpdate update_text count) (Just (codes "END\n")) updates end found
                     (items_apart IsReadUpdate update_text count update_apart) items is)
 
                 pub log_unended : ((rest : List ℕ) → end ≢ codes "END\n" ++ rest)
-                    → IsBehindOne (IsTextOf Logged) left None
+                    → IsBehindOne (IsTextOf LogKind) left None
                 log_unended none = behind_items None (just_none (codes "END\n") end none)
 
                 pub log_end : (rest : List ℕ) → end ≡ codes "END\n" ++ rest
-                    → IsBehindOne (IsTextOf Logged) left (Some rest)
+                    → IsBehindOne (IsTextOf LogKind) left (Some rest)
                 log_end rest cut = behind_items (Some rest) (just_some (codes "END\n") end rest cut)

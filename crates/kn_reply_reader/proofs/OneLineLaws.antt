@@ -46,10 +46,10 @@ AreTold form = (ns : List ℕ) → IsTold form ns
 -- a form, and that it is told
 record Entry : Type 0 where
   form : List ℕ
-  told : AreTold form
+  exact : AreTold form
 
 abbrev entry : (form : List ℕ) → AreTold form → Entry
-entry form told = record { form = form; told = told }
+entry form told = record { form = form; exact = told }
 
 abbrev form_of : Entry → List ℕ
 form_of e = e.form
@@ -255,7 +255,7 @@ entries =
 told_in : (known : List Entry) (text : List ℕ) → IsOfOneForm (map form_of known) text → (form : List ℕ) × (ns : List ℕ)
     × IsTold form ns × (text ≡ filled form ns)
 told_in [] text is = absurd is
-told_in (e ∷ others) text (inl is) = (e.form, is.0, e.told is.0, is.1)
+told_in (e ∷ others) text (inl is) = (e.form, is.0, e.exact is.0, is.1)
 told_in (e ∷ others) text (inr is) = told_in others text is
 
 pub one_line_from : (text : List ℕ) → IsOfOneForm one_line_forms text → IsTextOf OneLine text

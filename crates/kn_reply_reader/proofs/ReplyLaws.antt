@@ -15,7 +15,7 @@ use Rattle.kn_reply_reader.specs.Texts.{HasText}
 use Rattle.kn_reply_reader.specs.Numerals.{IsNumberAt, HasNoNumber}
 use Rattle.kn_reply_reader.specs.Fronts.{IsBehindOne, AreApart, TextOf, Items}
 use Rattle.kn_reply_reader.specs.Forms.{IsOfForm, IsOfOneForm}
-use Rattle.kn_reply_reader.specs.Kinds.{Told, Needed, IsTextOf, IsNameWord, IsAnyId, kind_of}
+use Rattle.kn_reply_reader.specs.Kinds.{NewsKind, CriticalKind, IsTextOf, IsNameWord, IsAnyId, kind_of}
 use Rattle.kn_reply_reader.proofs.Written.{number_apart}
 use Rattle.kn_reply_reader.proofs.Fronts.{Then, Just, behind_same, apart_same, then_none, then_some, then_apart}
 use Rattle.kn_reply_reader.proofs.Fronts.{just_apart, just_none, just_some, items_apart}
@@ -69,7 +69,7 @@ news_whole index version name =
         ∙ ap (λ (l : List ℕ). a ++ 32 ∷ l) (append_assoc b (32 ∷ []) (c ++ 10 ∷ []))
         ∙ sym (append_assoc a (32 ∷ b) (32 ∷ (c ++ 10 ∷ []))) ∙ sym (append_assoc (a ++ 32 ∷ b) (32 ∷ c) (10 ∷ []))
 
-news_from : (text : List ℕ) → NewsParts text → IsTextOf Told text
+news_from : (text : List ℕ) → NewsParts text → IsTextOf NewsKind text
 news_from text is =
     let index = get_or is.2.0 0 0 in
     let rest = is.3 in
@@ -86,10 +86,10 @@ news_from text is =
           ∙ news_whole index version name;
     }
 
-news_to : (text : List ℕ) → IsTextOf Told text → NewsParts text
+news_to : (text : List ℕ) → IsTextOf NewsKind text → NewsParts text
 news_to text is = go is.reply is.has is.is is.same
   where
-    go : (reply : Reply) → HasText reply → kind_of reply ≡ Told → text ≡ reply_text reply → NewsParts text
+    go : (reply : Reply) → HasText reply → kind_of reply ≡ NewsKind → text ≡ reply_text reply → NewsParts text
     go (News index name version) has told same = (
       codes "NEWS " ++ decimal index ++ 32 ∷ [],
       (name ++ 32 ∷ []) ++ (decimal version ++ 10 ∷ []),
@@ -111,31 +111,31 @@ news_to text is = go is.reply is.has is.is is.same
     go NoMemory has told same = absurd (cc)
 
 news_same : (left : List ℕ) (found : Option (List ℕ)) → IsBehindOne NewsParts left found
-    → IsBehindOne (IsTextOf Told) left found
-news_same left found = behind_same NewsParts (IsTextOf Told) left found news_from news_to
+    → IsBehindOne (IsTextOf NewsKind) left found
+news_same left found = behind_same NewsParts (IsTextOf NewsKind) left found news_from news_to
 
-pub news_apart : AreApart (IsTextOf Told)
-news_apart = apart_same NewsParts (IsTextOf Told) news_to
+pub news_apart : AreApart (IsTextOf NewsKind)
+news_apart = apart_same NewsParts (IsTextOf NewsKind) news_to
     (then_apart NewsFront (Then IsNameWord NewsEnd) (form_apart (codes "NEWS # ") refl)
     (then_apart IsNameWord NewsEnd name_apart (form_apart (codes "#\n") refl)))
 
 module _ (left : List ℕ) where
-  pub news_none : IsBehindOne NewsFront left None → IsBehindOne (IsTextOf Told) left None
+  pub news_none : IsBehindOne NewsFront left None → IsBehindOne (IsTextOf NewsKind) left None
   news_none none = news_same left None (then_none NewsFront (Then IsNameWord NewsEnd) left none)
 
   module _ (named : List ℕ) (first : IsBehindOne NewsFront left (Some named)) where
     go_on : (found : Option (List ℕ)) → IsBehindOne (Then IsNameWord NewsEnd) named found
-        → IsBehindOne (IsTextOf Told) left found
+        → IsBehindOne (IsTextOf NewsKind) left found
     go_on found is =
         news_same left found
         (then_some NewsFront (Then IsNameWord NewsEnd) left named found (form_apart (codes "NEWS # ") refl) first is)
 
-    pub news_unnamed : IsBehindOne IsNameWord named None → IsBehindOne (IsTextOf Told) left None
+    pub news_unnamed : IsBehindOne IsNameWord named None → IsBehindOne (IsTextOf NewsKind) left None
     news_unnamed none = go_on None (then_none IsNameWord NewsEnd named none)
 
     pub news_end : (numbered : List ℕ) (found : Option (List ℕ)) → IsBehindOne IsNameWord named (Some numbered)
         → IsBehindOne NewsEnd numbered found
-        → IsBehindOne (IsTextOf Told) left found
+        → IsBehindOne (IsTextOf NewsKind) left found
     news_end numbered found second third =
         go_on found (then_some IsNameWord NewsEnd named numbered found name_apart second third)
 
@@ -244,7 +244,7 @@ critical_whole : (index : ℕ) (ids : List Id)
     ++ (decimal (length ids) ++ 10 ∷ (flat_map need_text ids ++ codes "END\n")) ≡ critical_text index ids
 critical_whole index ids = simp append_assoc
 
-critical_from : (most : ℕ) (text : List ℕ) → CriticalParts most text → IsTextOf Needed text
+critical_from : (most : ℕ) (text : List ℕ) → CriticalParts most text → IsTextOf CriticalKind text
 critical_from most text is =
     let index = get_or is.2.0 0 0 in
     let counted = is.3 in
@@ -266,10 +266,10 @@ critical_from most text is =
 any_ids : (ids : List Id) → All IsAnyId ids
 any_ids ids k d within = tt
 
-critical_to : (most : ℕ) (text : List ℕ) → length text ≤ most → IsTextOf Needed text → CriticalParts most text
+critical_to : (most : ℕ) (text : List ℕ) → length text ≤ most → IsTextOf CriticalKind text → CriticalParts most text
 critical_to most text short is = go is.reply is.is is.same
   where
-    go : (reply : Reply) → kind_of reply ≡ Needed → text ≡ reply_text reply → CriticalParts most text
+    go : (reply : Reply) → kind_of reply ≡ CriticalKind → text ≡ reply_text reply → CriticalParts most text
     go (Critical index ids) needed same =
         let front = codes "CRITICAL " ++ decimal index ++ 32 ∷ [] in
         let lines = flat_map need_text ids ++ codes "END\n" in
@@ -314,7 +314,7 @@ critical_to most text short is = go is.reply is.is is.same
     go NoMemory needed same = absurd (cc)
 
 critical_same : (most : ℕ) (left : List ℕ) (found : Option (List ℕ)) → most ≡ length left
-    → IsBehindOne (CriticalParts most) left found → IsBehindOne (IsTextOf Needed) left found
+    → IsBehindOne (CriticalParts most) left found → IsBehindOne (IsTextOf CriticalKind) left found
 critical_same most left None all none = λ text rest is e.
     let size : length left ≡ length text + length rest = ap length e ∙ length-append text rest in
     none text rest (critical_to most text (omega (arith, size, all)) is) e
@@ -324,44 +324,45 @@ needs_apart : (count : ℕ) → AreApart (Items IsAnyId need_text count)
 needs_apart count = items_apart IsAnyId need_text count need_apart
 
 module _ (most : ℕ) (left : List ℕ) (all : most ≡ length left) where
-  pub critical_none : IsBehindOne CriticalFront left None → IsBehindOne (IsTextOf Needed) left None
+  pub critical_none : IsBehindOne CriticalFront left None → IsBehindOne (IsTextOf CriticalKind) left None
   critical_none none = critical_same most left None all (then_none CriticalFront (Counted most 10 Ended) left none)
 
   module _ (small : most < 2 ^ 64) (counted : List ℕ) (first : IsBehindOne CriticalFront left (Some counted)) where
     behind_front : (found : Option (List ℕ)) → IsBehindOne (Counted most 10 Ended) counted found
-        → IsBehindOne (IsTextOf Needed) left found
+        → IsBehindOne (IsTextOf CriticalKind) left found
     behind_front found is =
         critical_same most left found all
         (then_some CriticalFront (Counted most 10 Ended) left counted found (form_apart (codes "CRITICAL # ") refl)
         first is)
 
-    pub critical_uncounted : HasNoNumber most 10 counted → IsBehindOne (IsTextOf Needed) left None
+    pub critical_uncounted : HasNoNumber most 10 counted → IsBehindOne (IsTextOf CriticalKind) left None
     critical_uncounted none = behind_front None (counted_none most 10 Ended small (omega arith) counted none)
 
     module _ (count : ℕ) (needs : List ℕ) (at : IsNumberAt most 10 counted count needs) where
       behind_count : (found : Option (List ℕ)) → IsBehindOne (Ended count) needs found
-          → IsBehindOne (IsTextOf Needed) left found
+          → IsBehindOne (IsTextOf CriticalKind) left found
       behind_count found is =
           behind_front found (counted_some most 10 Ended small (omega arith) counted needs count found at is)
 
       pub critical_few : IsBehindOne (Items IsAnyId need_text count) needs None
-          → IsBehindOne (IsTextOf Needed) left None
+          → IsBehindOne (IsTextOf CriticalKind) left None
       critical_few none =
           behind_count None (then_none (Items IsAnyId need_text count) (Just (codes "END\n")) needs none)
 
       module _ (end : List ℕ) (lines : IsBehindOne (Items IsAnyId need_text count) needs (Some end)) where
         behind_lines : (found : Option (List ℕ)) → IsBehindOne (Just (codes "END\n")) end found
-            → IsBehindOne (IsTextOf Needed) left found
+            → IsBehindOne (IsTextOf CriticalKind) left found
         behind_lines found is =
             behind_count found
             (then_some (Items IsAnyId need_text count) (Just (codes "END\n")) needs end found (needs_apart count) lines
             is)
 
-        pub critical_unended : ((rest : List ℕ) → end ≢ codes "END\n" ++ rest) → IsBehindOne (IsTextOf Needed) left None
+        pub critical_unended : ((rest : List ℕ) → end ≢ codes "END\n" ++ rest)
+            → IsBehindOne (IsTextOf CriticalKind) left None
         critical_unended none = behind_lines None (just_none (codes "END\n") end none)
 
         pub critical_end : (rest : List ℕ) → end ≡ codes "END\n" ++ rest
-            → IsBehindOne (IsTextOf Needed) left (Some rest)
+            → IsBehindOne (IsTextOf CriticalKind) left (Some rest)
         critical_end rest cut = behind_lines (Some rest) (just_some (codes "END\n") end rest cut)
 
 ended_apart : (count : ℕ) → AreApart (Ended count)
@@ -373,7 +374,7 @@ parts_apart most small =
     then_apart CriticalFront (Counted most 10 Ended) (form_apart (codes "CRITICAL # ") refl)
     (counted_apart most 10 Ended small (omega arith) ended_apart)
 
-pub critical_apart : (left a b r s : List ℕ) → length left < 2 ^ 64 → IsTextOf Needed a → IsTextOf Needed b
+pub critical_apart : (left a b r s : List ℕ) → length left < 2 ^ 64 → IsTextOf CriticalKind a → IsTextOf CriticalKind b
     → left ≡ a ++ r → left ≡ b ++ s → a ≡ b
 critical_apart left a b r s small is is' e e' =
     let size : length left ≡ length a + length r = ap length e ∙ length-append a r in

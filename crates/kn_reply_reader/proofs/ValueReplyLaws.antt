@@ -8,8 +8,8 @@ use Rattle.kn_proof.specs.declared.reply.ReadReply.{ReadReply}
 use Rattle.kn_proof.specs.Texts.{row_text}
 use Rattle.kn_proof.specs.Reading.{IsHeader, IsReadRow, IsReadTo, IsReplyText, header_text}
 use Rattle.kn_proof.proofs.OneLine.{header_is_line, row_is_line}
-use Rattle.kn_proof.proofs.Only.{header_of, reply_read}
-use Rattle.kn_proof.proofs.Written.{header_texts, header_form, row_texts, row_form}
+use Rattle.kn_proof.proofs.OneReplyOrFault.{header_of, reply_read}
+use Rattle.kn_proof.proofs.LineTexts.{header_texts, header_form, row_texts, row_form}
 use Rattle.kn_reply_reader.specs.ValueReplies.{IsOtherLine, AreOtherLines, IsThroughEnd, IsValueAt}
 use Rattle.kn_reply_reader.proofs.EndingLaws.{none_before, one_more}
 

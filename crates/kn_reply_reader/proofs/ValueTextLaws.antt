@@ -3,7 +3,7 @@ use Rattle.std.proofs.Common.{◌≡◌, ℕ, List, ◌++◌, Some, None, refl, 
 use Rattle.kn_proof.specs.declared.reply.ReadReply.{ReadReply}
 use Rattle.kn_proof.specs.declared.fault.ProofFault.{ProofFault}
 use Rattle.kn_proof.specs.Reading.{HasHead, IsFirstFault, IsReplyText}
-use Rattle.kn_proof.proofs.Only.{reply_without_fault}
+use Rattle.kn_proof.proofs.OneReplyOrFault.{reply_without_fault}
 use Rattle.kn_reply.specs.Replies.{Reply, Done, Started, Number, PrivateAdded, Added, Value, Batched, PinnedAt, Log}
 use Rattle.kn_reply.specs.Replies.{News, Critical, No, NoMemory, reply_text}
 use Rattle.kn_reply_reader.specs.Texts.{HasText}

@@ -41,8 +41,7 @@ step k n acc some =
     ∙ ap (λ (d : ℕ). digits_onto k 10 false (n / 10) (d ∷ acc)) (glyph_is n)
 
 last : (k n : ℕ) (acc : List ℕ) → n / 10 ≡ 0 → digits_onto (suc k) 10 false n acc ≡ (48 + n % 10) ∷ acc
-last k n acc none =
-    cond-true (n / 10 == 0) _ _ (eq-eqb (n / 10) 0 none) ∙ ap (λ (d : ℕ). d ∷ acc) (glyph_is n)
+last k n acc none = cond-true (n / 10 == 0) _ _ (eq-eqb (n / 10) 0 none) ∙ ap (λ (d : ℕ). d ∷ acc) (glyph_is n)
 
 -- the digits that stand before acc are of this form
 pub record AreLastDigits (k n : ℕ) (acc text : List ℕ) : Type 0 where

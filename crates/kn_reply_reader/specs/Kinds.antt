@@ -14,9 +14,9 @@ use Rattle.kn_reply_reader.specs.Texts.{HasText, IsReadChange}
 pub data Kind : Type 0 where
   OneLine : Kind
   Proved : Kind
-  Logged : Kind
-  Told : Kind
-  Needed : Kind
+  LogKind : Kind
+  NewsKind : Kind
+  CriticalKind : Kind
 
 abbrev pub kind_of : Reply → Kind
 kind_of Done = OneLine
@@ -27,9 +27,9 @@ kind_of (Added k version) = OneLine
 kind_of (Value index name version rows) = Proved
 kind_of (Batched first added version) = OneLine
 kind_of (PinnedAt version newest) = OneLine
-kind_of (Log n history) = Logged
-kind_of (News index name version) = Told
-kind_of (Critical index ids) = Needed
+kind_of (Log n history) = LogKind
+kind_of (News index name version) = NewsKind
+kind_of (Critical index ids) = CriticalKind
 kind_of (No refusal) = OneLine
 kind_of NoMemory = OneLine
 
@@ -58,7 +58,7 @@ IsAnyId id = ⊤
 abbrev pub IsReadNumbered : Numbered → Type 0
 IsReadNumbered c = IsReadChange c.change c.id
 
--- the text of an addition, or the id of a removal, and how it is told
+-- the text of an addition, or the id of a removal, and how it is written
 abbrev pub IsShortText : List ℕ → Type 0
 IsShortText text = IsReadChange (Add text) 0
 

@@ -2,7 +2,7 @@
 ghost use Rattle.std.specs.Prelude.{option_map};
 ghost use Rattle.kn_reply.specs.Logs.{change_text, update_text};
 ghost use Rattle.kn_reply_reader.specs.Fronts.{IsBehindOne, Items, TextOf};
-ghost use Rattle.kn_reply_reader.specs.Kinds.{IsReadNumbered, IsShortId, IsShortText, IsTextOf, Logged};
+ghost use Rattle.kn_reply_reader.specs.Kinds.{IsReadNumbered, IsShortId, IsShortText, IsTextOf, LogKind};
 ghost use Rattle.kn_reply_reader.specs.Kinds.{addition_text, removal_text};
 ghost use Rattle.kn_reply_reader.specs.Texts.{IsReadUpdate};
 
@@ -19,7 +19,7 @@ const MOST_UPDATES: u64 = LOG_UPDATES as u64;
 
 /// What is left behind a reply to LOG.
 pub(crate) fn behind_log(left: &[u8]) -> Option<&[u8]>
-    ensures { IsBehindOne (IsTextOf Logged) left.now (option_map (λ rest. rest.now) result) }
+    ensures { IsBehindOne (IsTextOf LogKind) left.now (option_map (λ rest. rest.now) result) }
 {
     let numbers = behind(left, b"LOG ")?;
     let (from, others) = read_number(numbers, NINE_DIGITS, b' ')?;

@@ -5,8 +5,8 @@ ghost use Rattle.kn_proof.specs.Lines.{is_name};
 ghost use Rattle.kn_reply.specs.Replies.{need_text};
 ghost use Rattle.kn_reply_reader.specs.Fronts.{IsBehindOne, Items, TextOf};
 ghost use Rattle.kn_reply_reader.specs.Texts.{BeginsWithReply};
-ghost use Rattle.kn_reply_reader.specs.Kinds.{IsAnyId, IsNameWord, IsReplyText, IsTextOf, Needed, OneLine};
-ghost use Rattle.kn_reply_reader.specs.Kinds.{Proved, Told};
+ghost use Rattle.kn_reply_reader.specs.Kinds.{IsAnyId, IsNameWord, IsReplyText, IsTextOf, CriticalKind, OneLine};
+ghost use Rattle.kn_reply_reader.specs.Kinds.{Proved, NewsKind};
 
 use crate::ending::cut_behind_end;
 use crate::forms::{behind_form, behind_one_form};
@@ -105,7 +105,7 @@ fn behind_one_line(left: &[u8]) -> Option<&[u8]>
 
 /// What is left behind a `NEWS` reply.
 fn behind_news(left: &[u8]) -> Option<&[u8]>
-    ensures { IsBehindOne (IsTextOf Told) left.now (option_map (λ rest. rest.now) result) }
+    ensures { IsBehindOne (IsTextOf NewsKind) left.now (option_map (λ rest. rest.now) result) }
 {
     let named = behind_form(left, b"NEWS # ")?;
     let numbered = behind_name(named)?;
@@ -145,7 +145,7 @@ fn has_comma(text: &[u8]) -> bool
 
 /// What is left behind a `CRITICAL` reply.
 fn behind_critical(left: &[u8]) -> Option<&[u8]>
-    ensures { IsBehindOne (IsTextOf Needed) left.now (option_map (λ rest. rest.now) result) }
+    ensures { IsBehindOne (IsTextOf CriticalKind) left.now (option_map (λ rest. rest.now) result) }
 {
     let counted = behind_form(left, b"CRITICAL # ")?;
     let (count, needs) = read_number(counted, left.len() as u64, b'\n')?;

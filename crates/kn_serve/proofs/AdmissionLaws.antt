@@ -20,7 +20,8 @@ use Rattle.kn_reply.specs.declared.refusal.Refusal.TheVariants as R
 use Rattle.kn_reply.specs.declared.refusal.ItemRefusal.{ItemRefusal}
 use Rattle.kn_reply.specs.declared.refusal.ItemRefusal.TheVariants as I
 use Rattle.kn_reply.specs.Logs.{item_of}
-use Rattle.kn_daemon.specs.Daemon.{Grounds, item_refusal, refusal_at_text, refusal_at_verdict, found_item, refusal_from}
+use Rattle.kn_daemon.specs.Daemon.{DaemonConfig, item_refusal, refusal_at_text, refusal_at_verdict, found_item}
+use Rattle.kn_daemon.specs.Daemon.{refusal_from}
 use Rattle.kn_daemon.proofs.Reading.{fault-refuses_item, reading-admits_item}
 use Rattle.kn_serve.specs.Admission.{Admits, RefusesItem, AdmitsAll, RefusesOneItem}
 
@@ -34,7 +35,7 @@ text_unread verdict text fault refusal (inr faulty) told =
     inr (λ g same. fault-refuses_item g text fault faulty ∙ sym told)
 
 -- what is judged of a text with this reading
-judged_as : (g : Grounds) (verdict : List ℕ → Assertion → ℕ) (text : List ℕ) (a : Assertion) →
+judged_as : (g : DaemonConfig) (verdict : List ℕ → Assertion → ℕ) (text : List ℕ) (a : Assertion) →
     assertion_of text ≡ Some a → g.verdict ≡ verdict →
     item_refusal g (AddText text) ≡ refusal_at_verdict I.Auth (verdict text a)
 judged_as g verdict text a reads same =
@@ -71,7 +72,7 @@ text_admitted verdict text a reads judged =
 -- Items one after the other.
 
 -- items behind those that are admitted are counted on
-behind_admitted : (g : Grounds) (number : ℕ) (front rest : List BatchItem) → refusal_from g number front ≡ None →
+behind_admitted : (g : DaemonConfig) (number : ℕ) (front rest : List BatchItem) → refusal_from g number front ≡ None →
     refusal_from g number (front ++ rest) ≡ refusal_from g (number + length front) rest
 behind_admitted g number [] rest e =
     let none : number ≡ number + 0 = omega arith in

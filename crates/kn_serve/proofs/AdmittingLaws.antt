@@ -8,10 +8,10 @@ use Rattle.std.proofs.lemmas.Slice.Eq.{bytes_eq-Decides}
 use Rattle.kn_outside.specs.Seen.{LinkSeen}
 use Rattle.kn_outside.specs.Printing.{Prints}
 use Rattle.kn_reply.specs.declared.refusal.Refusal.TheVariants as R
-use Rattle.kn_wire.specs.Digits.{bytes_of_digits}
+use Rattle.kn_wire.specs.Hex.{bytes_of_hex}
 use Rattle.kn_reply.specs.Replies.{Done, No, reply_text}
 use Rattle.kn_daemon.specs.Shapes.{Shape, Controls, ShowSecret}
-use Rattle.kn_daemon.specs.Daemon.{Grounds, State, own_refusal, refuse_if, is_secret}
+use Rattle.kn_daemon.specs.Daemon.{DaemonConfig, State, own_refusal, refuse_if, is_secret}
 use Rattle.kn_serve.specs.Handling.{Tells}
 use Rattle.kn_serve.proofs.HandlingLaws.{told_refused, told_done}
 
@@ -23,21 +23,21 @@ bytes_eq-turned xs ys =
 
 -- ADMIN with these digits
 abbrev shown : List ℕ → Shape
-shown digits = Controls (ShowSecret (bytes_of_digits digits))
+shown digits = Controls (ShowSecret (bytes_of_hex digits))
 
-module _ (g : Grounds) (old : State) (secret digits : List ℕ) (whole : Bool) (l l' : LinkSeen)
+module _ (g : DaemonConfig) (old : State) (secret digits : List ℕ) (whole : Bool) (l l' : LinkSeen)
     (same : g.secret ≡ secret) where
-  own : (b : Bool) → is_secret secret (bytes_of_digits digits) ≡ b →
+  own : (b : Bool) → is_secret secret (bytes_of_hex digits) ≡ b →
       own_refusal g old (shown digits) ≡ refuse_if (not b) R.Admin None
   own b e =
-      ap (λ (x : List ℕ). refuse_if (not (is_secret x (bytes_of_digits digits))) R.Admin None) same
+      ap (λ (x : List ℕ). refuse_if (not (is_secret x (bytes_of_hex digits))) R.Admin None) same
       ∙ ap (λ (x : Bool). refuse_if (not x) R.Admin None) e
 
-  pub admin_refused : is_secret secret (bytes_of_digits digits) ≡ false →
+  pub admin_refused : is_secret secret (bytes_of_hex digits) ≡ false →
       Prints whole (reply_text (No R.Admin)) l l' → Tells g (shown digits) whole old old l l'
   admin_refused wrong prints = told_refused g (shown digits) whole old l l' R.Admin (own false wrong) prints
 
-  pub admin_done : is_secret secret (bytes_of_digits digits) ≡ true → Prints whole (reply_text Done) l l' →
+  pub admin_done : is_secret secret (bytes_of_hex digits) ≡ true → Prints whole (reply_text Done) l l' →
       Tells g (shown digits) whole old (record old { is_admin = true }) l l'
   admin_done right prints =
       told_done g (shown digits) whole old l l' (record old { is_admin = true }) Done refl (own true right)

@@ -20,7 +20,8 @@ use Rattle.kn_reply.specs.declared.refusal.Refusal.TheVariants as R
 use Rattle.kn_reply.specs.Logs.{item_of}
 use Rattle.kn_reply.specs.Replies.{Batched, reply_text}
 use Rattle.kn_daemon.specs.Shapes.{Shape, Updates, ApplyBlock}
-use Rattle.kn_daemon.specs.Daemon.{Grounds, State, IsBatchCommitted, own_refusal, placed_refusal, refusal_of_update}
+use Rattle.kn_daemon.specs.Daemon.{DaemonConfig, State, IsBatchCommitted, own_refusal, placed_refusal}
+use Rattle.kn_daemon.specs.Daemon.{refusal_of_update}
 use Rattle.kn_daemon.specs.Daemon.{refusal_of_block, refusal_of_batch, refusal_of_item_fault}
 use Rattle.kn_daemon.specs.Linearized.{update_by, read_items}
 use Rattle.kn_registry.specs.declared.answer.Batched.{Batched as BatchDone}
@@ -35,7 +36,8 @@ abbrev batches : List ℕ → Shape
 batches block = Updates (ApplyBlock block)
 
 -- the block isn't made of items, or memory ran out
-pub batch_unread : (g : Grounds) (whole : Bool) (l l' : LinkSeen) (now : State) (block : List ℕ) (fault : BatchText)
+pub batch_unread : (g : DaemonConfig) (whole : Bool) (l l' : LinkSeen) (now : State) (block : List ℕ)
+    (fault : BatchText)
     (told : Option Refusal) → now.is_admin ≡ true → HasFault block fault → told ≡ refusal_of_batch_text fault →
     Prints whole (reply_text (refused_reply told)) l l' → Tells g (batches block) whole now now l l'
 batch_unread g whole l l' now block fault told admin why is prints =
@@ -50,7 +52,7 @@ batch_unread g whole l l' now block fault told admin why is prints =
         told_refused g (batches block) whole now l l' (R.Batch item) (rw admin own) p
     by T.NoMemory e p = told_memory g (batches block) whole now l l' refl p
 
-module _ (g : Grounds) (now : State) (block : List ℕ) (items : List BatchItem) (verdict : List ℕ → Assertion → ℕ)
+module _ (g : DaemonConfig) (now : State) (block : List ℕ) (items : List BatchItem) (verdict : List ℕ → Assertion → ℕ)
     (grounds : g.verdict ≡ verdict) (admin : now.is_admin ≡ true) (read : items_of block ≡ Ok items) where
   -- what the state refuses of a block that is made of these items
   own_of_items : (o : Option Refusal) → refusal_of_block g (Ok items) ≡ o → own_refusal g now (batches block) ≡ o
@@ -72,7 +74,7 @@ module _ (g : Grounds) (now : State) (block : List ℕ) (items : List BatchItem)
   batch_unadmitted whole l l' (Some refusal) (inr refused) prints =
       told_refused g (batches block) whole now l l' refusal (own_of_items (Some refusal) (refused g grounds)) prints
 
-module _ (g : Grounds) (whole : Bool) (v w : PassSeen) (l l' : LinkSeen) (now : State) (block : List ℕ)
+module _ (g : DaemonConfig) (whole : Bool) (v w : PassSeen) (l l' : LinkSeen) (now : State) (block : List ℕ)
     (read : List BatchItem) (items : List Item) (reads : items_of block ≡ Ok read) (seen : items ≡ map item_of read)
     (own : own_refusal g now (batches block) ≡ None) where
   abbrev before : Moment
@@ -93,8 +95,7 @@ module _ (g : Grounds) (whole : Bool) (v w : PassSeen) (l l' : LinkSeen) (now : 
       (unrefused (own_refusal g now (batches block)) own) prints
     where
       committed : List Item → Type 0
-      committed changes =
-          IsBatchCommitted v.number w.seen changes (Batched batched.first batched.added batched.version)
+      committed changes = IsBatchCommitted v.number w.seen changes (Batched batched.first batched.added batched.version)
 
       named : batch_by v.number batched.first items ∷ []
           ≡ option_to_list (update_by v.number (batches block) (Batched batched.first batched.added batched.version))
@@ -111,7 +112,7 @@ module _ (g : Grounds) (whole : Bool) (v w : PassSeen) (l l' : LinkSeen) (now : 
             ends = subst (λ (n : ℕ). w.seen ≡ c.before ++ batch_by v.number n items ∷ []) b.first c.ends;
             accepted = subst (λ (n : ℕ). update_may_follow (all_changes c.before) (batch_by v.number n items) ≡ true)
                 b.first c.follows;
-            told = rw (c.at, b.added)
+            exact = rw (c.at, b.added)
                 (ap (λ (n : ℕ). Batched n (additions (numbered_from n items)) (length w.seen)) b.first);
           }
 

@@ -13,7 +13,7 @@ use Rattle.kn_session.specs.Calls.{Call, call_fault_in, call_answer, lacks_memor
 use Rattle.kn_reply.specs.declared.refusal.Refusal.{Refusal}
 use Rattle.kn_reply.specs.Replies.{reply_text}
 use Rattle.kn_daemon.specs.Shapes.{Calls}
-use Rattle.kn_daemon.specs.Daemon.{Grounds, State, session_of, own_refusal, refusal_of_call, reply_of_call}
+use Rattle.kn_daemon.specs.Daemon.{DaemonConfig, State, session_of, own_refusal, refusal_of_call, reply_of_call}
 use Rattle.kn_daemon.specs.Linearized.{update_by, is_placed}
 use Rattle.kn_daemon.proofs.Faults.{untold-lacks, lacking-untold}
 use Rattle.kn_serve.specs.Handling.{HasRoom, Tells, refused_reply}
@@ -21,8 +21,7 @@ use Rattle.kn_serve.proofs.HandlingLaws.{is_acceptance, told_refused, told_memor
 
 -- a connection with these sessions
 abbrev pub state_with : OpenSessions → Bool → State
-state_with sessions is_admin =
-    record { started = sessions.started; sessions = sessions.sessions; is_admin = is_admin }
+state_with sessions is_admin = record { started = sessions.started; sessions = sessions.sessions; is_admin = is_admin }
 
 -- a session that isn't open
 pub none_found : (s : ℕ) (found : Option Session) (fault : SessionFault) →
@@ -52,7 +51,7 @@ unplaced : (applied : Applied) (s : ℕ) (call : Call) → is_placed (Calls s ca
 unplaced A.Done s call = refl
 unplaced (A.Added k) s call = refl
 
-module _ (g : Grounds) (a b : OpenSessions) (is_admin : Bool) (s : ℕ) (call : Call) (whole : Bool)
+module _ (g : DaemonConfig) (a b : OpenSessions) (is_admin : Bool) (s : ℕ) (call : Call) (whole : Bool)
     (l l' : LinkSeen) where
   abbrev TellsAfter : OpenSessions → Type 0
   TellsAfter x = Tells g (Calls s call) whole (state_with a is_admin) (state_with x is_admin) l l'
@@ -96,5 +95,4 @@ module _ (g : Grounds) (a b : OpenSessions) (is_admin : Bool) (s : ℕ) (call : 
       by None e p =
           told_memory g (Calls s call) whole (state_with a is_admin) l l'
           (k.memory (untold-lacks fault (sym e))) p
-      by (Some refusal) e p =
-          told_refused g (Calls s call) whole (state_with a is_admin) l l' refusal (due refusal e) p
+      by (Some refusal) e p = told_refused g (Calls s call) whole (state_with a is_admin) l l' refusal (due refusal e) p

@@ -19,7 +19,8 @@ use Rattle.kn_reply.specs.declared.refusal.ItemRefusal.TheVariants as I
 use Rattle.kn_reply.specs.declared.refusal.LimitWord.TheVariants as W
 use Rattle.kn_reply.specs.Replies.{Number, Added, No, reply_text}
 use Rattle.kn_daemon.specs.Shapes.{Updating, Updates, AddText, DropId}
-use Rattle.kn_daemon.specs.Daemon.{Grounds, State, own_refusal, placed_refusal, refusal_of_store, refusal_of_update}
+use Rattle.kn_daemon.specs.Daemon.{DaemonConfig, State, own_refusal, placed_refusal, refusal_of_store}
+use Rattle.kn_daemon.specs.Daemon.{refusal_of_update}
 use Rattle.kn_daemon.specs.Daemon.{refusal_of_reading, refusal_of_verdict, refusal_at_reading, refusal_at_verdict}
 use Rattle.kn_daemon.specs.Daemon.{item_refusal}
 use Rattle.kn_registry.specs.Passes.{PassSeen, Adds, Removes, IsRefused, Refuses, RefusesText, RefusesId}
@@ -29,7 +30,7 @@ use Rattle.kn_serve.specs.Handling.{in_state, Handles, Tells, refused_reply}
 use Rattle.kn_serve.proofs.HandlingLaws.{handled_by, lacking_handled, refused_handled, unrefused}
 use Rattle.kn_serve.proofs.HandlingLaws.{told_refused, told_memory}
 
-module _ (g : Grounds) (whole : Bool) (v w : PassSeen) (l l' : LinkSeen) (now : State) where
+module _ (g : DaemonConfig) (whole : Bool) (v w : PassSeen) (l l' : LinkSeen) (now : State) where
   -- the update is answered, and the state stays as it is
   abbrev Keeps : Updating → Type 0
   Keeps change = Handles g (Updates change) whole (in_state now v l) (in_state now w l')
@@ -100,17 +101,17 @@ module _ (g : Grounds) (whole : Bool) (v w : PassSeen) (l l' : LinkSeen) (now : 
       store_refused (DropId id) (refusal_of_id (all_changes w.seen) id) fault refusal refl refuses own told prints
 
 -- the secret wasn't shown
-pub update_unshown : (g : Grounds) (whole : Bool) (l l' : LinkSeen) (now : State) (change : Updating) →
+pub update_unshown : (g : DaemonConfig) (whole : Bool) (l l' : LinkSeen) (now : State) (change : Updating) →
     now.is_admin ≡ false → Prints whole (reply_text (No R.Admin)) l l' → Tells g (Updates change) whole now now l l'
 update_unshown g whole l l' now change out prints =
     told_refused g (Updates change) whole now l l' R.Admin (rw out refl) prints
 
-pub drop_shown : (g : Grounds) (now : State) (id : ℕ) → now.is_admin ≡ true →
+pub drop_shown : (g : DaemonConfig) (now : State) (id : ℕ) → now.is_admin ≡ true →
     own_refusal g now (Updates (DropId id)) ≡ None
 drop_shown g now id admin = rw admin refl
 
 -- what refuses a text is what refuses the item that adds it
-refusal_of_addition : (g : Grounds) (text : List ℕ) →
+refusal_of_addition : (g : DaemonConfig) (text : List ℕ) →
     refusal_of_update g (AddText text) ≡ option_map request_refusal (item_refusal g (ItemText text))
 refusal_of_addition g text = by (reading_of text)
   where
@@ -132,7 +133,7 @@ refusal_of_addition g text = by (reading_of text)
     by (Ok a) = at_verdict (g.verdict text a) (g.verdict text a == 0)
     by (Err fault) = at_fault (fault_number fault) (fault_place fault)
 
-module _ (g : Grounds) (whole : Bool) (l l' : LinkSeen) (now : State) (text : List ℕ)
+module _ (g : DaemonConfig) (whole : Bool) (l l' : LinkSeen) (now : State) (text : List ℕ)
     (verdict : List ℕ → Assertion → ℕ) (grounds : g.verdict ≡ verdict) (admin : now.is_admin ≡ true) where
   -- the text isn't admitted
   pub add_unadmitted : (refusal : Option ItemRefusal) (told : Option Refusal) →

@@ -7,13 +7,13 @@ use Rattle.std.proofs.lemmas.Bool.{eqb-true}
 use Rattle.std.proofs.lemmas.List.{length-map}
 use Rattle.kn_base.specs.declared.limits.TheConstants.{REQUESTS}
 use Rattle.kn_outside.specs.Seen.{LinkSeen}
-use Rattle.kn_outside.specs.Told.{before}
+use Rattle.kn_outside.specs.SpecifiedBytes.{before}
 use Rattle.kn_wire.specs.declared.fault.WireFault.TheVariants as F
 use Rattle.kn_wire.specs.Requests.{Request, Bye, Faulty, Takes, first_of}
 use Rattle.kn_wire.proofs.Growing.{no_request, same_first, requests-grow}
 use Rattle.kn_daemon.specs.declared.ended.Ended.{Ended}
 use Rattle.kn_daemon.specs.declared.ended.Ended.TheVariants as E
-use Rattle.kn_daemon.specs.Daemon.{Grounds}
+use Rattle.kn_daemon.specs.Daemon.{DaemonConfig}
 use Rattle.kn_daemon.specs.Linearized.{Exchange, requests_in}
 use Rattle.kn_daemon.specs.Served.{is_bye, is_block}
 use Rattle.kn_registry.specs.Passes.{PassSeen}
@@ -157,7 +157,7 @@ over-empty : (after : List ℕ) → is_over (Some after) ≡ true → after ≡ 
 over-empty [] over = refl
 over-empty (b ∷ after) over = let none = eqb-true (length (b ∷ after)) 0 over in absurd (omega (arith, none))
 
-module _ (g : Grounds) (v w : PassSeen) (l l' : LinkSeen) (input : List ℕ) (told : l.left ≡ Some input)
+module _ (g : DaemonConfig) (v w : PassSeen) (l l' : LinkSeen) (input : List ℕ) (told : l.left ≡ Some input)
     (o : IsOrderly input) (faultless : IsFaultless l l') where
   -- the requests that were served are the first ones of the input
   served-begin : (taken : List ℕ) (requests : List Request) (rest : List ℕ) → l.left ≡ before taken l'.left →
@@ -206,7 +206,7 @@ module _ (g : Grounds) (v w : PassSeen) (l l' : LinkSeen) (input : List ℕ) (to
       absurd (no-budget input o (requests_in served.exchanges) begun.0 begun.1 served.why.1.no_bye served.why.0)
 
 -- where the link tells its input
-pub completes : (g : Grounds) (v w : PassSeen) (l l' : LinkSeen) (ended : Ended) → Serves g v w l l' ended →
+pub completes : (g : DaemonConfig) (v w : PassSeen) (l l' : LinkSeen) (ended : Ended) → Serves g v w l l' ended →
     IfSome l.left (λ input. IsOrderly input → IsFaultless l l' → (ended ≡ E.Done) ⊎ (ended ≡ E.Memory))
 completes g v w l l' ended s = by l.left refl
   where

@@ -3,7 +3,7 @@ use Rattle.std.proofs.Common.{◌≡◌, ℕ, ◌≤◌, true, false, List, [], 
 use Rattle.std.proofs.Common.{arith, Option, Some, None, subst}
 use Rattle.std.specs.Prelude.{take}
 use Rattle.kn_outside.specs.Seen.{LinkSeen}
-use Rattle.kn_outside.specs.Told.{more, before}
+use Rattle.kn_outside.specs.SpecifiedBytes.{more, before}
 use Rattle.kn_outside.specs.Printing.{Prints}
 use Rattle.kn_outside.specs.Reading.{Reads, Fails}
 use Rattle.kn_history.specs.declared.update.Update.{Update}

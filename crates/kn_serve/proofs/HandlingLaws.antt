@@ -13,7 +13,7 @@ use Rattle.kn_reply.specs.Replies.{Reply, Done, Started, Number, PrivateAdded, A
 use Rattle.kn_reply.specs.Replies.{News, Critical, No, NoMemory, reply_text}
 use Rattle.kn_daemon.specs.declared.shape.Shape.{Shape as Asked}
 use Rattle.kn_daemon.specs.Shapes.{Shape, Controls, Leave, AtFault, shape_in_code}
-use Rattle.kn_daemon.specs.Daemon.{Grounds, State, Permits, Answers, own_refusal, placed_refusal, changed}
+use Rattle.kn_daemon.specs.Daemon.{DaemonConfig, State, Permits, Answers, own_refusal, placed_refusal, state_after}
 use Rattle.kn_daemon.specs.Daemon.{may_lack_memory, refusal_of_fault}
 use Rattle.kn_daemon.specs.Linearized.{update_by, is_placed, StandsFor}
 use Rattle.kn_daemon.proofs.Refusals.{own-unplaced}
@@ -38,7 +38,7 @@ stands-here : (b : Bool) (n : ℕ) → StandsFor b n (n ∷ [])
 stands-here true n = refl
 stands-here false n = omega arith
 
-module _ (g : Grounds) (shape : Shape) (whole : Bool) (m m' : Moment) where
+module _ (g : DaemonConfig) (shape : Shape) (whole : Bool) (m m' : Moment) where
   -- the pass moved so, and the reply is permitted at what it has then seen
   pub handled_by : (reply : Reply) (more own : List Update) (entries : List ℕ) →
       Moves m.pass m'.pass more own entries → own ≡ option_to_list (update_by m.pass.number shape reply) →
@@ -105,13 +105,14 @@ module _ (g : Grounds) (shape : Shape) (whole : Bool) (m m' : Moment) where
   lacking_handled same stays own may prints = stayed_handled NoMemory stays own refl refl (may, same) prints
 
 -- a request of this shape
-pub handles_as : (g : Grounds) (shape : Shape) (whole : Bool) (m m' : Moment) (asked is : Asked) →
+pub handles_as : (g : DaemonConfig) (shape : Shape) (whole : Bool) (m m' : Moment) (asked is : Asked) →
     shape ≡ shape_in_code asked → asked ≡ is → Handles g (shape_in_code is) whole m m' → Handles g shape whole m m'
 handles_as g shape whole m m' asked is same at handled =
     subst (λ (x : Shape). Handles g x whole m m') (sym (same ∙ ap shape_in_code at)) handled
 
 -- the pass had nothing to do with it
-pub told_handled : (g : Grounds) (shape : Shape) (whole : Bool) (v : PassSeen) (old new : State) (l l' : LinkSeen) →
+pub told_handled : (g : DaemonConfig) (shape : Shape) (whole : Bool) (v : PassSeen) (old new : State) (l l' : LinkSeen)
+    →
     Tells g shape whole old new l l' → Handles g shape whole (in_state old v l) (in_state new v l')
 told_handled g shape whole v old new l l' t =
     handled_by g shape whole (in_state old v l) (in_state new v l') t.reply [] [] [] (moves-nothing v)
@@ -135,10 +136,10 @@ is_acceptance (Critical index ids) = true
 is_acceptance (No refusal) = false
 is_acceptance NoMemory = false
 
-module _ (g : Grounds) (caller : ℕ) (past : List Update) (old new : State) (shape : Shape) where
+module _ (g : DaemonConfig) (caller : ℕ) (past : List Update) (old new : State) (shape : Shape) where
   -- what a daemon does it may reply
   pub does_permitted : (reply : Reply) → is_acceptance reply ≡ true → own_refusal g old shape ≡ None →
-      Answers caller past old shape reply → new ≡ changed past old shape → Permits g caller past old shape reply new
+      Answers caller past old shape reply → new ≡ state_after past old shape → Permits g caller past old shape reply new
   does_permitted Done is own due next = record { accepted = own; answered = due; next = next }
   does_permitted (Started s version) is own due next = record { accepted = own; answered = due; next = next }
   does_permitted (Number version) is own due next = record { accepted = own; answered = due; next = next }
@@ -155,7 +156,7 @@ module _ (g : Grounds) (caller : ℕ) (past : List Update) (old new : State) (sh
   does_permitted (No refusal) is own due next = absurd (cc is)
   does_permitted NoMemory is own due next = absurd (cc is)
 
-module _ (g : Grounds) (shape : Shape) (whole : Bool) (old : State) (l l' : LinkSeen) where
+module _ (g : DaemonConfig) (shape : Shape) (whole : Bool) (old : State) (l l' : LinkSeen) where
   -- the state refuses the request
   pub told_refused : (refusal : Refusal) → own_refusal g old shape ≡ Some refusal →
       Prints whole (reply_text (No refusal)) l l' → Tells g shape whole old old l l'
@@ -188,7 +189,7 @@ module _ (g : Grounds) (shape : Shape) (whole : Bool) (old : State) (l l' : Link
   -- the request is accepted, and its reply and what it makes of the state are the same wherever it stands
   pub told_done : (new : State) (reply : Reply) → is_acceptance reply ≡ true → own_refusal g old shape ≡ None →
       ((caller : ℕ) (past : List Update) → Answers caller past old shape reply) →
-      ((past : List Update) → new ≡ changed past old shape) → ((caller : ℕ) → update_by caller shape reply ≡ None) →
+      ((past : List Update) → new ≡ state_after past old shape) → ((caller : ℕ) → update_by caller shape reply ≡ None) →
       is_placed shape reply ≡ false → Prints whole (reply_text reply) l l' → Tells g shape whole old new l l'
   told_done new reply is own answered next no_update unplaced prints = record {
     reply = reply;
@@ -199,7 +200,7 @@ module _ (g : Grounds) (shape : Shape) (whole : Bool) (old : State) (l l' : Link
     prints = prints;
   }
 
-module _ (g : Grounds) (whole : Bool) (now : State) (l l' : LinkSeen) where
+module _ (g : DaemonConfig) (whole : Bool) (now : State) (l l' : LinkSeen) where
   -- BYE is answered
   pub bye_told : Prints whole (reply_text Done) l l' → Tells g (Controls Leave) whole now now l l'
   bye_told prints =

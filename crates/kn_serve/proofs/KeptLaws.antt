@@ -9,16 +9,16 @@ use Rattle.kn_history.specs.declared.update.Update.{Update}
 use Rattle.kn_session.specs.Sessions.{Session, StandingQuery, asker, query_at}
 use Rattle.kn_wire.specs.Feeding.{Held}
 use Rattle.kn_daemon.specs.Shapes.{Shape}
-use Rattle.kn_daemon.specs.Daemon.{Grounds}
+use Rattle.kn_daemon.specs.Daemon.{DaemonConfig}
 use Rattle.kn_registry.specs.Passes.{PassSeen, Moves}
 use Rattle.kn_query.specs.declared.shared_base.SharedBase.{SharedBase}
 use Rattle.kn_query.specs.declared.kept_bases.KeptBases.{KeptBases}
 use Rattle.kn_query.specs.KeptBases.{EachKept, IsKeptOrOf}
 use Rattle.kn_query.specs.SharedBases.{IsOfHistory, IsOfVersion}
-use Rattle.kn_query.proofs.Kept.{each-weaker, kept-has}
+use Rattle.kn_query.proofs.KeptBaseLaws.{each-weaker, kept-has}
 use Rattle.kn_serve.specs.Handling.{Moment, Handles}
 use Rattle.kn_serve.specs.Serving.{Serving}
-use Rattle.kn_serve.specs.Kept.{IsFirstOf, ArePinned, IsKept}
+use Rattle.kn_serve.specs.KeptBases.{IsFirstOf, ArePinned, IsKept}
 use Rattle.kn_serve.proofs.PinnedLaws.{underway-pinned}
 
 -- the first updates stay
@@ -42,7 +42,7 @@ pub kept-moved : (v w : PassSeen) (more own : List Update) (entries : List ℕ) 
 kept-moved v w more own entries kept moves is =
     subst (λ (u : List Update). IsKept u kept) (sym moves.seen) (kept-grown v.seen more kept is)
 
-pub kept-handled : (g : Grounds) (shape : Shape) (whole : Bool) (m m' : Moment) (kept : KeptBases)
+pub kept-handled : (g : DaemonConfig) (shape : Shape) (whole : Bool) (m m' : Moment) (kept : KeptBases)
     → Handles g shape whole m m' → IsKept m.pass.seen kept → IsKept m'.pass.seen kept
 kept-handled g shape whole m m' kept handled is =
     kept-moved m.pass m'.pass handled.more _ handled.entries kept handled.moves is
@@ -87,7 +87,7 @@ newest-first asking query made seen asks same =
     subst (λ (u : List Update). IsFirstOf u seen) (sym (ap (λ (x : Session). x.pinned) asks ∙ same)) (all-first seen)
 
 -- the sessions are pinned between two requests
-pub serving_pinned : (g : Grounds) (u : PassSeen) (l : LinkSeen) (m : Moment) (h : Held) (answered : ℕ)
+pub serving_pinned : (g : DaemonConfig) (u : PassSeen) (l : LinkSeen) (m : Moment) (h : Held) (answered : ℕ)
     → Serving g u l m h answered
     → ArePinned m.pass.seen m.state
 serving_pinned g u l m h answered s =

@@ -12,10 +12,10 @@ use Rattle.kn_reply.specs.Replies.{News, Critical, No, NoMemory}
 use Rattle.kn_daemon.specs.declared.shape.Shape.{Shape as Asked}
 use Rattle.kn_daemon.specs.Shapes.{Shape, Calls, Updates, Looks, Asks, Controls, AtFault, ForNew, ForOpen, ForRetained}
 use Rattle.kn_daemon.specs.Shapes.{ForStanding, ForLog, WithProof, WithCritical, ToKeep, shape_in_code}
-use Rattle.kn_daemon.specs.Daemon.{Grounds, State, session_of, pinned_to, with_session, changed, Permits}
+use Rattle.kn_daemon.specs.Daemon.{DaemonConfig, State, session_of, pinned_to, with_session, state_after, Permits}
 use Rattle.kn_serve.specs.declared.last_question.LastAnswer.{LastAnswer}
 use Rattle.kn_serve.specs.Handling.{Moment, Handles}
-use Rattle.kn_serve.specs.Kept.{IsFirstOf, ArePinned}
+use Rattle.kn_serve.specs.KeptBases.{IsFirstOf, ArePinned}
 use Rattle.kn_serve.specs.LastQuestions.{LastAsked, IsRight, IsStillRight, IsLastOf, IsRightAgain}
 use Rattle.kn_serve.specs.LastQuestions.{IsAnswerTo, IsKeptFor, Takes, at_version, may_keep_answer}
 
@@ -29,8 +29,7 @@ none-last history state last none = by last.values
   where
     by : (vs : Option Values) → IfSome vs (λ values. IfSome last.answer (IsStillRight history state values))
     by None = tt
-    by (Some values) =
-        subst (λ (a : Option LastAnswer). IfSome a (IsStillRight history state values)) (sym none) tt
+    by (Some values) = subst (λ (a : Option LastAnswer). IfSome a (IsStillRight history state values)) (sym none) tt
 
 -- what is kept, as a whole
 last-weaker : (P Q : Values → LastAnswer → Type 0) → ((vs : Values) (a : LastAnswer) → P vs a → Q vs a)
@@ -102,7 +101,7 @@ still-repinned history version state s values last is = record {
 -- a request that may keep the answer leaves it right
 still-changed : (history past : List Update) (state : State) (shape : Shape) (values : Values) (last : LastAnswer)
     → may_keep_answer shape ≡ true → IsStillRight history state values last
-    → IsStillRight history (changed past state shape) values last
+    → IsStillRight history (state_after past state shape) values last
 still-changed history past state (Looks (ForOpen s)) values last k is =
     still-repinned history past state s values last is
 still-changed history past state (Looks (ForRetained s number)) values last k is = by (retained_version past number)
@@ -122,8 +121,9 @@ still-changed history past state (Controls control) values last k is = absurd (c
 still-changed history past state (AtFault fault) values last k is = absurd (cc k)
 
 -- a permitted reply leaves the state, or changes it as the request does
-changes-permitted : (g : Grounds) (caller : ℕ) (past : List Update) (old new : State) (shape : Shape) (reply : Reply)
-    → Permits g caller past old shape reply new → (new ≡ old) ⊎ (new ≡ changed past old shape)
+changes-permitted : (g : DaemonConfig) (caller : ℕ) (past : List Update) (old new : State) (shape : Shape)
+    (reply : Reply)
+    → Permits g caller past old shape reply new → (new ≡ old) ⊎ (new ≡ state_after past old shape)
 changes-permitted g caller past old new shape Done d = inr d.next
 changes-permitted g caller past old new shape (Started s version) d = inr d.next
 changes-permitted g caller past old new shape (Number version) d = inr d.next
@@ -139,7 +139,7 @@ changes-permitted g caller past old new shape (No refusal) d = inl d.1
 changes-permitted g caller past old new shape NoMemory d = inl d.1
 
 still-permitted : (history past : List Update) (old new : State) (shape : Shape) (values : Values) (last : LastAnswer)
-    → may_keep_answer shape ≡ true → (new ≡ old) ⊎ (new ≡ changed past old shape)
+    → may_keep_answer shape ≡ true → (new ≡ old) ⊎ (new ≡ state_after past old shape)
     → IsStillRight history old values last → IsStillRight history new values last
 still-permitted history past old new shape values last k (inl same) is =
     subst (λ (state : State). IsStillRight history state values last) (sym same) is
@@ -147,7 +147,7 @@ still-permitted history past old new shape values last k (inr next) is =
     subst (λ (state : State). IsStillRight history state values last) (sym next)
     (still-changed history past old shape values last k is)
 
-pub last-handled : (g : Grounds) (shape : Shape) (whole : Bool) (m m' : Moment) (last : LastAsked)
+pub last-handled : (g : DaemonConfig) (shape : Shape) (whole : Bool) (m m' : Moment) (last : LastAsked)
     → Handles g shape whole m m' → may_keep_answer shape ≡ true → IsLastOf m.pass.seen m.state last
     → IsLastOf m'.pass.seen m'.state last
 last-handled g shape whole m m' last handled k is =
@@ -158,26 +158,23 @@ last-handled g shape whole m m' last handled k is =
     (changes-permitted g m.pass.number (m.pass.seen ++ handled.more) m.state m'.state shape handled.reply
     handled.replied.permitted) still))) last is
 
-pub last-handled-same : (g : Grounds) (shape : Shape) (whole : Bool) (m m' : Moment) (last after : LastAsked)
+pub last-handled-same : (g : DaemonConfig) (shape : Shape) (whole : Bool) (m m' : Moment) (last after : LastAsked)
     → Handles g shape whole m m' → after ≡ last → may_keep_answer shape ≡ true → IsLastOf m.pass.seen m.state last
     → IsLastOf m'.pass.seen m'.state after
 last-handled-same g shape whole m m' last after handled same k is =
     subst (λ (l : LastAsked). IsLastOf m'.pass.seen m'.state l) (sym same)
     (last-handled g shape whole m m' last handled k is)
 
--- a request of another shape may not keep it
-pub unkept : {P : Type 0} (shape : Shape) (asked is : Asked) → shape ≡ shape_in_code asked → asked ≡ is
-    → may_keep_answer (shape_in_code is) ≡ false → may_keep_answer shape ≡ true → P
-unkept shape asked is same at none k =
-    let gone : may_keep_answer shape ≡ false = ap may_keep_answer (same ∙ ap shape_in_code at) ∙ none in
-    absurd (cc (gone, k))
+-- a request of such a shape may keep it
+pub keeps_as : (shape : Shape) (asked is : Asked) → shape ≡ shape_in_code asked → asked ≡ is
+    → may_keep_answer (shape_in_code is) ≡ true → may_keep_answer shape ≡ true
+keeps_as shape asked is same at keeps = ap may_keep_answer (same ∙ ap shape_in_code at) ∙ keeps
 
 -- a session that is pinned to a version of the history is as it would be at that version
 at-own : (history : List Update) (session : Session) (number : ℕ) → IsFirstOf session.pinned history
     → length session.pinned ≡ number → at_version history number session ≡ session
 at-own history session number first at =
-    let same : take number history ≡ session.pinned =
-    ap (λ (n : ℕ). take n history) (sym at) ∙ sym first in
+    let same : take number history ≡ session.pinned = ap (λ (n : ℕ). take n history) (sym at) ∙ sym first in
     ap (λ (p : List Update). record session { pinned = p }) same
 
 -- the answer that is kept is the session's again

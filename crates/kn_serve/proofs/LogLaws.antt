@@ -9,7 +9,7 @@ use Rattle.kn_history.specs.declared.update.Update.{Update}
 use Rattle.kn_reply.specs.declared.refusal.Refusal.TheVariants as R
 use Rattle.kn_reply.specs.Replies.{Log, No, NoMemory, reply_text}
 use Rattle.kn_daemon.specs.Shapes.{Shape, Looks, ForLog}
-use Rattle.kn_daemon.specs.Daemon.{Grounds, State, own_refusal, placed_refusal}
+use Rattle.kn_daemon.specs.Daemon.{DaemonConfig, State, own_refusal, placed_refusal}
 use Rattle.kn_registry.specs.Passes.{PassSeen, Looks as PassLooks, Stays}
 use Rattle.kn_serve.specs.Handling.{in_state, Handles, Tells}
 use Rattle.kn_serve.proofs.HandlingLaws.{looked_handled, lacking_handled, refused_handled, told_refused}
@@ -18,11 +18,11 @@ abbrev logs : ℕ → Shape
 logs n = Looks (ForLog n)
 
 -- the secret wasn't shown
-pub log_unshown : (g : Grounds) (whole : Bool) (l l' : LinkSeen) (now : State) (n : ℕ) → now.is_admin ≡ false →
+pub log_unshown : (g : DaemonConfig) (whole : Bool) (l l' : LinkSeen) (now : State) (n : ℕ) → now.is_admin ≡ false →
     Prints whole (reply_text (No R.Admin)) l l' → Tells g (logs n) whole now now l l'
 log_unshown g whole l l' now n out prints = told_refused g (logs n) whole now l l' R.Admin (rw out refl) prints
 
-module _ (g : Grounds) (whole : Bool) (v w : PassSeen) (l l' : LinkSeen) (now : State) (n : ℕ)
+module _ (g : DaemonConfig) (whole : Bool) (v w : PassSeen) (l l' : LinkSeen) (now : State) (n : ℕ)
     (admin : now.is_admin ≡ true) where
   shown : own_refusal g now (logs n) ≡ None
   shown = rw admin refl

@@ -16,7 +16,7 @@ use Rattle.kn_reply.specs.declared.refusal.Refusal.TheVariants as R
 use Rattle.kn_reply.specs.declared.refusal.LimitWord.TheVariants as W
 use Rattle.kn_reply.specs.Replies.{Started, Number, PinnedAt, No, NoMemory, reply_text}
 use Rattle.kn_daemon.specs.Shapes.{Shape, Looks, ForNew, ForOpen, ForRetained}
-use Rattle.kn_daemon.specs.Daemon.{Grounds, State, session_of, own_refusal, placed_refusal, refuse_if, pinned_to}
+use Rattle.kn_daemon.specs.Daemon.{DaemonConfig, State, session_of, own_refusal, placed_refusal, refuse_if, pinned_to}
 use Rattle.kn_daemon.specs.Daemon.{refusal_by}
 use Rattle.kn_registry.specs.declared.answer.PinFault.{PinFault}
 use Rattle.kn_registry.specs.declared.answer.PinFault.TheVariants as P
@@ -29,7 +29,7 @@ use Rattle.kn_serve.proofs.CallingLaws.{state_with, none_found}
 abbrev opens : Shape
 opens = Looks ForNew
 
-module _ (g : Grounds) (whole : Bool) (l l' : LinkSeen) (now : State) where
+module _ (g : DaemonConfig) (whole : Bool) (l l' : LinkSeen) (now : State) where
   -- there are as many sessions as there may be
   pub open_full : (count : ℕ) → count ≡ length now.sessions → SESSIONS ≤ count →
       Prints whole (reply_text (No (R.Limit W.Sessions count))) l l' → Tells g opens whole now now l l'
@@ -39,14 +39,14 @@ module _ (g : Grounds) (whole : Bool) (l l' : LinkSeen) (now : State) where
       (subst (λ (n : ℕ). Prints whole (reply_text (No (R.Limit W.Sessions n))) l l') same prints)
 
 -- there are fewer
-open_room : (g : Grounds) (now : State) (count : ℕ) → count ≡ length now.sessions → count < SESSIONS →
+open_room : (g : DaemonConfig) (now : State) (count : ℕ) → count ≡ length now.sessions → count < SESSIONS →
     own_refusal g now opens ≡ None
 open_room g now count same few =
     let test : nat_le SESSIONS (length now.sessions) ≡ false = grind (arith, nat_tests, same, few) in
     rw test refl
 
 -- Where the pass moved. The state stays as it is.
-module _ (g : Grounds) (whole : Bool) (v w : PassSeen) (l l' : LinkSeen) (now : State) where
+module _ (g : DaemonConfig) (whole : Bool) (v w : PassSeen) (l l' : LinkSeen) (now : State) where
   abbrev Keeps : Shape → Type 0
   Keeps shape = Handles g shape whole (in_state now v l) (in_state now w l')
 
@@ -84,70 +84,71 @@ module _ (g : Grounds) (whole : Bool) (v w : PassSeen) (l l' : LinkSeen) (now : 
           (subst (λ (k : ℕ). Prints whole (reply_text (No (R.Retained k))) l l') m.newest_is p)
 
 -- Where the sessions may have changed.
-module _ (g : Grounds) (whole : Bool) (v w : PassSeen) (l l' : LinkSeen) (a b : OpenSessions) (is_admin : Bool) where
-  abbrev old : State
-  old = state_with a is_admin
+module _ (g : DaemonConfig) (whole : Bool) (v w : PassSeen) (l l' : LinkSeen) (a b : OpenSessions) (is_admin : Bool)
+  where
+    abbrev old : State
+    old = state_with a is_admin
 
-  abbrev new : State
-  new = state_with b is_admin
+    abbrev new : State
+    new = state_with b is_admin
 
-  abbrev Changes : Shape → Type 0
-  Changes shape = Handles g shape whole (in_state old v l) (in_state new w l')
+    abbrev Changes : Shape → Type 0
+    Changes shape = Handles g shape whole (in_state old v l) (in_state new w l')
 
-  -- out of memory for the session
-  pub open_unstarted : (count : ℕ) → count ≡ length a.sessions → count < SESSIONS → PassLooks v w → b ≡ a →
-      Prints whole (reply_text NoMemory) l l' → Changes opens
-  open_unstarted count size few looks same prints =
-      unserved_handled g opens whole (in_state old v l) (in_state new w l')
-      (ap (λ (x : OpenSessions). state_with x is_admin) same) looks (open_room g old count size few) refl prints
+    -- out of memory for the session
+    pub open_unstarted : (count : ℕ) → count ≡ length a.sessions → count < SESSIONS → PassLooks v w → b ≡ a →
+        Prints whole (reply_text NoMemory) l l' → Changes opens
+    open_unstarted count size few looks same prints =
+        unserved_handled g opens whole (in_state old v l) (in_state new w l')
+        (ap (λ (x : OpenSessions). state_with x is_admin) same) looks (open_room g old count size few) refl prints
 
-  -- the session was started
-  pub open_started : (s version : ℕ) (made : List Update) → PassLooks v w → made ≡ w.seen → version ≡ length made →
-      start_fault a.sessions ≡ None → s ≡ a.started + 1 →
-      b ≡ record { started = a.started + 1; sessions = with_started a.started a.sessions made } →
-      Prints whole (reply_text (Started s version)) l l' → Changes opens
-  open_started s version made looks seen at accepted number after prints =
-      let started : List Update → State =
-      λ u. state_with (record { started = a.started + 1; sessions = with_started a.started a.sessions u })
-      is_admin in
-      looked_handled g opens whole (in_state old v l) (in_state new w l') (Started s version) looks
-      (ap refusal_by accepted) refl
-      (record {
-        accepted = ap refusal_by accepted;
-        answered = rw (number, at, seen) refl;
-        next = ap (λ (x : OpenSessions). state_with x is_admin) after ∙ ap started seen;
-      }) prints
+    -- the session was started
+    pub open_started : (s version : ℕ) (made : List Update) → PassLooks v w → made ≡ w.seen → version ≡ length made →
+        start_fault a.sessions ≡ None → s ≡ a.started + 1 →
+        b ≡ record { started = a.started + 1; sessions = with_started a.started a.sessions made } →
+        Prints whole (reply_text (Started s version)) l l' → Changes opens
+    open_started s version made looks seen at accepted number after prints =
+        let started : List Update → State =
+        λ u. state_with (record { started = a.started + 1; sessions = with_started a.started a.sessions u })
+        is_admin in
+        looked_handled g opens whole (in_state old v l) (in_state new w l') (Started s version) looks
+        (ap refusal_by accepted) refl
+        (record {
+          accepted = ap refusal_by accepted;
+          answered = rw (number, at, seen) refl;
+          next = ap (λ (x : OpenSessions). state_with x is_admin) after ∙ ap started seen;
+        }) prints
 
-  -- the session was pinned
-  pub pin_done : (s version : ℕ) (made : List Update) → PassLooks v w → made ≡ w.seen → version ≡ length made →
-      fault_in s (session_in a.sessions s) (λ x. None) ≡ None → b ≡ with_open_session a s (pin_at made) →
-      Prints whole (reply_text (Number version)) l l' → Changes (Looks (ForOpen s))
-  pin_done s version made looks seen at accepted after prints =
-      let pinned : List Update → State = λ u. state_with (with_open_session a s (pin_at u)) is_admin in
-      looked_handled g (Looks (ForOpen s)) whole (in_state old v l) (in_state new w l') (Number version) looks
-      (ap refusal_by accepted) refl
-      (record {
-        accepted = ap refusal_by accepted;
-        answered = rw (at, seen) refl;
-        next = ap (λ (x : OpenSessions). state_with x is_admin) after ∙ ap pinned seen;
-      }) prints
+    -- the session was pinned
+    pub pin_done : (s version : ℕ) (made : List Update) → PassLooks v w → made ≡ w.seen → version ≡ length made →
+        fault_in s (session_in a.sessions s) (λ x. None) ≡ None → b ≡ with_open_session a s (pin_at made) →
+        Prints whole (reply_text (Number version)) l l' → Changes (Looks (ForOpen s))
+    pin_done s version made looks seen at accepted after prints =
+        let pinned : List Update → State = λ u. state_with (with_open_session a s (pin_at u)) is_admin in
+        looked_handled g (Looks (ForOpen s)) whole (in_state old v l) (in_state new w l') (Number version) looks
+        (ap refusal_by accepted) refl
+        (record {
+          accepted = ap refusal_by accepted;
+          answered = rw (at, seen) refl;
+          next = ap (λ (x : OpenSessions). state_with x is_admin) after ∙ ap pinned seen;
+        }) prints
 
-  -- the session was pinned to the retained version
-  pub pin_at_done : (s version newest : ℕ) (made : List Update) → PassLooks v w →
-      retained_version w.seen version ≡ Some made → newest ≡ length w.seen →
-      fault_in s (session_in a.sessions s) (λ x. None) ≡ None → b ≡ with_open_session a s (pin_at made) →
-      Prints whole (reply_text (PinnedAt version newest)) l l' → Changes (Looks (ForRetained s version))
-  pin_at_done s version newest made looks retained at accepted after prints =
-      looked_handled g (Looks (ForRetained s version)) whole (in_state old v l) (in_state new w l')
-      (PinnedAt version newest) looks (ap refusal_by accepted) refl
-      (record {
-        accepted = ap refusal_by accepted;
-        answered = (ap is_some retained, ap (PinnedAt version) at);
-        next = ap (λ (x : OpenSessions). state_with x is_admin) after ∙ ap (pinned_to old s) (sym retained);
-      }) prints
+    -- the session was pinned to the retained version
+    pub pin_at_done : (s version newest : ℕ) (made : List Update) → PassLooks v w →
+        retained_version w.seen version ≡ Some made → newest ≡ length w.seen →
+        fault_in s (session_in a.sessions s) (λ x. None) ≡ None → b ≡ with_open_session a s (pin_at made) →
+        Prints whole (reply_text (PinnedAt version newest)) l l' → Changes (Looks (ForRetained s version))
+    pin_at_done s version newest made looks retained at accepted after prints =
+        looked_handled g (Looks (ForRetained s version)) whole (in_state old v l) (in_state new w l')
+        (PinnedAt version newest) looks (ap refusal_by accepted) refl
+        (record {
+          accepted = ap refusal_by accepted;
+          answered = (ap is_some retained, ap (PinnedAt version) at);
+          next = ap (λ (x : OpenSessions). state_with x is_admin) after ∙ ap (pinned_to old s) (sym retained);
+        }) prints
 
 -- Where the session isn't open.
-module _ (g : Grounds) (whole : Bool) (l l' : LinkSeen) (now : State) (s : ℕ) (fault : SessionFault)
+module _ (g : DaemonConfig) (whole : Bool) (l l' : LinkSeen) (now : State) (s : ℕ) (fault : SessionFault)
     (why : fault_in s (session_of now s) (λ x. None) ≡ Some fault) where
   pub pin_unknown : Prints whole (reply_text (No R.Session)) l l' → Tells g (Looks (ForOpen s)) whole now now l l'
   pin_unknown prints =

@@ -15,11 +15,12 @@ use Rattle.kn_wire.specs.Feeding.{Held}
 use Rattle.kn_daemon.specs.Shapes.{Shape, Calls, Updates, Looks, Asks, Controls, AtFault, ForNew, ForOpen, ForRetained}
 use Rattle.kn_daemon.specs.Shapes.{ForStanding, ForLog, Look, Question, WithProof, WithCritical, ToKeep, Control}
 use Rattle.kn_daemon.specs.Shapes.{ShowSecret, Leave, shape_of}
-use Rattle.kn_daemon.specs.Daemon.{Grounds, State, first_state, pinned_to, looked, kept, questioned}
-use Rattle.kn_daemon.specs.Daemon.{controlled, changed, Does, Permits}
+use Rattle.kn_daemon.specs.Daemon.{DaemonConfig, State, first_state, pinned_to, state_after_look, state_keeping}
+use Rattle.kn_daemon.specs.Daemon.{state_after_question}
+use Rattle.kn_daemon.specs.Daemon.{state_after_control, state_after, Does, Permits}
 use Rattle.kn_daemon.specs.Linearized.{Exchange, Along}
 use Rattle.kn_daemon.specs.Underway.{IsUnderway}
-use Rattle.kn_serve.specs.Kept.{IsFirstOf, ArePinned}
+use Rattle.kn_serve.specs.KeptBases.{IsFirstOf, ArePinned}
 
 abbrev IsPinned : List Update → Session → Type 0
 IsPinned h x = (n : ℕ) × (x.pinned ≡ take n h)
@@ -94,7 +95,7 @@ pinned-retained h state s (Some version) each are =
     pinned-change h state.sessions s (pin_at version) (λ x is. each version refl) are
 
 pinned-looked : (h : List Update) (n : ℕ) (state : State) (look : Look) → AllPinned h state.sessions
-    → AllPinned h (looked (take n h) state look).sessions
+    → AllPinned h (state_after_look (take n h) state look).sessions
 pinned-looked h n state ForNew are =
     pinned-push h state.sessions (started_session (state.started + 1) (take n h)) are (n, refl)
 pinned-looked h n state (ForOpen s) are = pinned-change h state.sessions s (pin_at (take n h)) (λ x is. (n, refl)) are
@@ -105,24 +106,24 @@ pinned-looked h n state (ForStanding s) are =
 pinned-looked h n state (ForLog m) are = are
 
 pinned-kept : (h : List Update) (state : State) (s : ℕ) (values : Option (List (List ℕ))) → AllPinned h state.sessions
-    → AllPinned h (kept state s values).sessions
+    → AllPinned h (state_keeping state s values).sessions
 pinned-kept h state s None are = are
 pinned-kept h state s (Some values) are = pinned-change h state.sessions s (watch_with values) (λ x is. is) are
 
 pinned-questioned : (h : List Update) (state : State) (question : Question) (s : ℕ) (names : List ℕ)
     → AllPinned h state.sessions
-    → AllPinned h (questioned state question s names).sessions
+    → AllPinned h (state_after_question state question s names).sessions
 pinned-questioned h state WithProof s names are = are
 pinned-questioned h state WithCritical s names are = are
 pinned-questioned h state ToKeep s names are = pinned-kept h state s (values_of names) are
 
 pinned-controlled : (h : List Update) (state : State) (control : Control) → AllPinned h state.sessions
-    → AllPinned h (controlled state control).sessions
+    → AllPinned h (state_after_control state control).sessions
 pinned-controlled h state (ShowSecret bytes) are = are
 pinned-controlled h state Leave are = are
 
 pinned-changed : (h : List Update) (n : ℕ) (state : State) (shape : Shape) → AllPinned h state.sessions
-    → AllPinned h (changed (take n h) state shape).sessions
+    → AllPinned h (state_after (take n h) state shape).sessions
 pinned-changed h n state (Calls s call) are = pinned-call h state.sessions s call are
 pinned-changed h n state (Updates update) are = are
 pinned-changed h n state (Looks look) are = pinned-looked h n state look are
@@ -130,7 +131,7 @@ pinned-changed h n state (Asks question s names) are = pinned-questioned h state
 pinned-changed h n state (Controls control) are = pinned-controlled h state control are
 pinned-changed h n state (AtFault fault) are = are
 
-module _ (h : List Update) (n : ℕ) (g : Grounds) (caller : ℕ) (old new : State) (shape : Shape)
+module _ (h : List Update) (n : ℕ) (g : DaemonConfig) (caller : ℕ) (old new : State) (shape : Shape)
     (are : AllPinned h old.sessions) where
   pinned-does : (reply : Reply) → Does g caller (take n h) old shape reply new → AllPinned h new.sessions
   pinned-does reply d =
@@ -154,7 +155,7 @@ module _ (h : List Update) (n : ℕ) (g : Grounds) (caller : ℕ) (old new : Sta
   pinned-permitted (No refusal) d = pinned-same d.1
   pinned-permitted NoMemory d = pinned-same d.1
 
-pinned-along : (h : List Update) (g : Grounds) (caller : ℕ) (old : State) (es : List Exchange) (new : State)
+pinned-along : (h : List Update) (g : DaemonConfig) (caller : ℕ) (old : State) (es : List Exchange) (new : State)
     → AllPinned h old.sessions → Along g caller h old es new → AllPinned h new.sessions
 pinned-along h g caller old [] new are along = subst (λ (state : State). AllPinned h state.sessions) (sym along) are
 pinned-along h g caller old (e ∷ es) new are (mid, permits, later) =
@@ -179,7 +180,8 @@ taken-so (suc n) (x ∷ h) = ap (λ l. x ∷ l) (taken-so n h)
 first-part : (h xs : List Update) (n : ℕ) → xs ≡ take n h → IsFirstOf xs h
 first-part h xs n e = subst (λ ys. IsFirstOf ys h) (sym e) (taken-so n h)
 
-pub underway-pinned : (g : Grounds) (taken written : List ℕ) (history : List Update) (start caller : ℕ) (stops : List ℕ)
+pub underway-pinned : (g : DaemonConfig) (taken written : List ℕ) (history : List Update) (start caller : ℕ)
+    (stops : List ℕ)
     (state : State) (held : Held) (answered : ℕ)
     → IsUnderway g taken written history start caller stops state held answered → ArePinned history state
 underway-pinned g taken written history start caller stops state held answered u = λ s session found.

@@ -24,7 +24,7 @@ use Rattle.kn_meaning.specs.Critical.{AreCritical, equation_nodes}
 use Rattle.kn_meaning.specs.Equations.{IsPolicyLevel}
 use Rattle.kn_reply.specs.Replies.{Value, Critical, reply_text}
 use Rattle.kn_daemon.specs.Shapes.{Question, WithProof, WithCritical, Asks}
-use Rattle.kn_daemon.specs.Daemon.{Grounds, State, session_of, session_parts, asked_of, equations_of, own_refusal}
+use Rattle.kn_daemon.specs.Daemon.{DaemonConfig, State, session_of, session_parts, asked_of, equations_of, own_refusal}
 use Rattle.kn_daemon.specs.Daemon.{refuse_if, refusal_of_nodes}
 use Rattle.kn_refusals.specs.Refusals.{refusal_of_values}
 use Rattle.kn_serve.specs.Handling.{Tells, RefusesQuestions, refusal_of_critical, refused_reply}
@@ -41,7 +41,7 @@ module _ (state : State) (s : ℕ) (names : List ℕ) where
       inr (λ g question. rw none refl)
 
   -- the names are no values
-  question_unnamed : (g : Grounds) (question : Question) (session : Session) (fault : ValuesFault) →
+  question_unnamed : (g : DaemonConfig) (question : Question) (session : Session) (fault : ValuesFault) →
       session_of state s ≡ Some session → values_fault names ≡ Some fault →
       own_refusal g state (Asks question s names) ≡ Some R.Values
   question_unnamed g question session fault there faulty =
@@ -64,7 +64,7 @@ module _ (state : State) (s : ℕ) (names : List ℕ) where
       by (V.BadName i) (inl e) is = absurd (search (rules, e))
       by (V.Twice i) (inl e) is = absurd (search (rules, e))
 
-module _ (g : Grounds) (question : Question) (whole : Bool) (old : State) (s : ℕ) (names : List ℕ)
+module _ (g : DaemonConfig) (question : Question) (whole : Bool) (old : State) (s : ℕ) (names : List ℕ)
     (l l' : LinkSeen) where
   -- the question is refused before it is answered
   pub question_refused : (refusal : Option Refusal) → RefusesQuestions old s names refusal →
@@ -93,7 +93,7 @@ nodes_refusal n = by (nat_lt CRITICAL_NODES n)
     by true = refl
     by false = refl
 
-module _ (g : Grounds) (whole : Bool) (old : State) (s : ℕ) (names : List ℕ) (l l' : LinkSeen) (session : Session)
+module _ (g : DaemonConfig) (whole : Bool) (old : State) (s : ℕ) (names : List ℕ) (l l' : LinkSeen) (session : Session)
     (values : List (List ℕ)) (there : session_of old s ≡ Some session) (named : values_of names ≡ Some values) where
   -- the query is answered with its proof
   pub query_answered : (version : ℕ) (answer : Answer) → IsRight session values answer →
@@ -111,7 +111,7 @@ module _ (g : Grounds) (whole : Bool) (old : State) (s : ℕ) (names : List ℕ)
         answer = record {
           level = answer.value;
           rows = answer.rows;
-          told = rw at refl;
+          exact = rw at refl;
           proved = right.proof;
           least = right.least;
         };
@@ -137,7 +137,7 @@ module _ (g : Grounds) (whole : Bool) (old : State) (s : ℕ) (names : List ℕ)
         values = values;
         found = there;
         named = named;
-        answer = record { level = level; ids = ids; told = refl; least = least; critical = critical };
+        answer = record { level = level; ids = ids; exact = refl; least = least; critical = critical };
       }) (λ past. refl) (λ caller. refl) refl prints
 
   -- it has too many nodes, or memory ran out

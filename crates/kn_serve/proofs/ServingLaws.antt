@@ -14,18 +14,19 @@ use Rattle.kn_reply.specs.Replies.{reply_text}
 use Rattle.kn_daemon.specs.declared.ended.Ended.{Ended}
 use Rattle.kn_daemon.specs.declared.ended.Ended.TheVariants as E
 use Rattle.kn_daemon.specs.Shapes.{shape_of}
-use Rattle.kn_daemon.specs.Daemon.{Grounds, State, first_state}
+use Rattle.kn_daemon.specs.Daemon.{DaemonConfig, State, first_state}
 use Rattle.kn_daemon.specs.Served.{IsServed, is_bye, is_block}
 use Rattle.kn_daemon.specs.Underway.{IsUnderway, IsReplied}
-use Rattle.kn_daemon.specs.Laws.{Begins, TakesPiece, AnswersOne, EndsByBye, EndsByBlock, EndsByWrite, EndsDry}
-use Rattle.kn_daemon.specs.Laws.{EndsByBudget, EndsByMemory, UnderwayIsSmall, IsDry}
+use Rattle.kn_daemon.specs.Laws.{Begins, TakesPiece, AnswersOne, EndsByBye, EndsByBlock, EndsByWrite}
+use Rattle.kn_daemon.specs.Laws.{EndsWithoutRequest}
+use Rattle.kn_daemon.specs.Laws.{EndsByBudget, EndsByMemory, UnderwayIsSmall, HasNoRequest}
 use Rattle.kn_registry.specs.Passes.{PassSeen}
 use Rattle.kn_serve.specs.Handling.{Moment, in_state, HasRoom, TakesNext}
 use Rattle.kn_serve.specs.Serving.{Gains, Serving, Serves, HasCause, IsInputEnd, is_over}
 use Rattle.kn_serve.proofs.GainsLaws.{Passed, printed_calm, read_calm, passed_whole, passed_part, passed_read}
 use Rattle.kn_serve.proofs.GainsLaws.{passed_failed, gains_nothing, gains_answer, gains_read, gains_quiet}
 
-pub serving_begun : Begins → (g : Grounds) (v : PassSeen) (l : LinkSeen) (now : State) (h : Held) →
+pub serving_begun : Begins → (g : DaemonConfig) (v : PassSeen) (l : LinkSeen) (now : State) (h : Held) →
     now ≡ first_state → h ≡ Bytes [] → Serving g v l (in_state now v l) h 0
 serving_begun law g v l now h first empty =
     let begun : Serving g v l (in_state first_state v l) (Bytes []) 0 = record {
@@ -40,7 +41,7 @@ serving_begun law g v l now h first empty =
     (subst (λ (x : Held). Serving g v l (in_state first_state v l) x 0) (sym empty) begun)
 
 -- a connection for which memory ran out
-pub serves_nothing : EndsByMemory → (g : Grounds) (v : PassSeen) (l : LinkSeen) → is_valid_history v.seen ≡ true →
+pub serves_nothing : EndsByMemory → (g : DaemonConfig) (v : PassSeen) (l : LinkSeen) → is_valid_history v.seen ≡ true →
     Serves g v v l l E.Memory
 serves_nothing law g v l valid = record {
   taken = [];
@@ -52,7 +53,7 @@ serves_nothing law g v l valid = record {
   still = λ same. refl;
 }
 
-module _ (g : Grounds) (u : PassSeen) (l : LinkSeen) (m : Moment) (h : Held) (answered : ℕ)
+module _ (g : DaemonConfig) (u : PassSeen) (l : LinkSeen) (m : Moment) (h : Held) (answered : ℕ)
     (s : Serving g u l m h answered) where
   -- there is room for one more session and one more private assertion
   pub serving_room : UnderwayIsSmall → answered < REQUESTS → HasRoom m.state
@@ -86,9 +87,9 @@ module _ (g : Grounds) (u : PassSeen) (l : LinkSeen) (m : Moment) (h : Held) (an
       }
 
   -- No whole request is held.
-  module _ (dries : EndsDry) (l'' : LinkSeen) (few : answered < REQUESTS) (none : next_of h ≡ None)
+  module _ (dries : EndsWithoutRequest) (l'' : LinkSeen) (few : answered < REQUESTS) (none : next_of h ≡ None)
       (valid : is_valid_history m.pass.seen ≡ true) where
-    dry : IsDry g s.taken s.written m.pass.seen (length u.seen) u.number s.stops h
+    dry : HasNoRequest g s.taken s.written m.pass.seen (length u.seen) u.number s.stops h
     dry =
         dries g s.taken s.written m.pass.seen (length u.seen) u.number s.stops m.state h answered s.underway few none
         valid

@@ -10,7 +10,7 @@ use Rattle.kn_wire.specs.Requests as Q
 use Rattle.kn_wire.specs.Feeding.{Held}
 use Rattle.kn_wire.specs.Feeds.{IsAnswer}
 use Rattle.kn_daemon.specs.Shapes.{shape_of}
-use Rattle.kn_daemon.specs.Daemon.{Grounds, State}
+use Rattle.kn_daemon.specs.Daemon.{DaemonConfig, State}
 use Rattle.kn_daemon.specs.Served.{is_bye, is_block}
 use Rattle.kn_registry.specs.Passes.{PassSeen}
 use Rattle.kn_serve.specs.Handling.{Moment, in_state, Tells, TakesNext}
@@ -22,7 +22,7 @@ goes_on fault (inl e) = ap (λ (f : WireFault). is_block (Faulty f)) e
 goes_on fault (inr (inl e)) = ap (λ (f : WireFault). is_block (Faulty f)) e
 goes_on fault (inr (inr e)) = ap (λ (f : WireFault). is_block (Faulty f)) e
 
-module _ (g : Grounds) (v : PassSeen) (now : State) (l l' : LinkSeen) (h h' : Held)
+module _ (g : DaemonConfig) (v : PassSeen) (now : State) (l l' : LinkSeen) (h h' : Held)
     (answer : Result (Option Request) WireFault) (fault : WireFault) (answered : IsAnswer h answer h')
     (is : answer ≡ Err fault) where
   abbrev before : Moment

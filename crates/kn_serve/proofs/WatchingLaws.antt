@@ -14,8 +14,8 @@ use Rattle.kn_reply.specs.declared.refusal.Refusal.{Refusal}
 use Rattle.kn_reply.specs.Replies.{News, NoMemory, reply_text}
 use Rattle.kn_meaning.specs.Equations.{IsPolicyLevel}
 use Rattle.kn_daemon.specs.Shapes.{Shape, ToKeep, Asks, ForStanding, Looks}
-use Rattle.kn_daemon.specs.Daemon.{Grounds, State, session_of, own_refusal, equations_of, refusal_by}
-use Rattle.kn_daemon.specs.Daemon.{refusal_of_session, kept, with_session}
+use Rattle.kn_daemon.specs.Daemon.{DaemonConfig, State, session_of, own_refusal, equations_of, refusal_by}
+use Rattle.kn_daemon.specs.Daemon.{refusal_of_session, state_keeping, with_session}
 use Rattle.kn_registry.specs.Passes.{PassSeen, Looks as PassLooks, Stays}
 use Rattle.kn_serve.specs.Handling.{Moment, in_state, Handles, Tells, refused_reply}
 use Rattle.kn_serve.proofs.CallingLaws.{state_with}
@@ -48,8 +48,7 @@ module _ (a b : OpenSessions) (s : ℕ) (session : Session) (values : List (List
   pub kept_stands : (fault : SessionFault) →
       fault_in s (session_in b.sessions s) standing_fault ≡ Some fault → ⊥
   kept_stands fault missing =
-      let none : None ≡ Some fault =
-      sym (ap (λ (o : Option Session). fault_in s o standing_fault) keeps) ∙ missing in
+      let none : None ≡ Some fault = sym (ap (λ (o : Option Session). fault_in s o standing_fault) keeps) ∙ missing in
       cc
 
   -- and it is the one that is found
@@ -61,7 +60,7 @@ module _ (a b : OpenSessions) (s : ℕ) (session : Session) (values : List (List
       cc
 
 -- memory ran out before the query was kept
-pub watch_unkept : (g : Grounds) (whole : Bool) (a b : OpenSessions) (is_admin : Bool) (s : ℕ) (names : List ℕ)
+pub watch_unkept : (g : DaemonConfig) (whole : Bool) (a b : OpenSessions) (is_admin : Bool) (s : ℕ) (names : List ℕ)
     (l l' : LinkSeen) → b ≡ a → Prints whole (reply_text NoMemory) l l' →
     Tells g (Asks ToKeep s names) whole (state_with a is_admin) (state_with b is_admin) l l'
 watch_unkept g whole a b is_admin s names l l' same prints =
@@ -70,7 +69,7 @@ watch_unkept g whole a b is_admin s names l l' same prints =
     subst told (sym same) (told_memory g (Asks ToKeep s names) whole (state_with a is_admin) l l' refl prints)
 
 -- the query is kept, and answered
-pub watch_answered : (g : Grounds) (whole : Bool) (a b : OpenSessions) (is_admin : Bool) (s : ℕ) (names : List ℕ)
+pub watch_answered : (g : DaemonConfig) (whole : Bool) (a b : OpenSessions) (is_admin : Bool) (s : ℕ) (names : List ℕ)
     (l l' : LinkSeen) (session : Session) (values : List (List ℕ)) (level version : ℕ) (query : StandingQuery) →
     session_in a.sessions s ≡ Some session → values_of names ≡ Some values →
     IsPolicyLevel (equations_of session values) level → version ≡ length session.pinned →
@@ -86,7 +85,7 @@ watch_answered g whole a b is_admin s names l l' session values level version qu
       values = values;
       found = there;
       named = named;
-      answer = record { level = level; told = told; least = least };
+      answer = record { level = level; exact = told; least = least };
     }) (λ past. next) (λ caller. refl) refl prints
   where
     told : News level (slice_index_or query.values level []) version
@@ -95,10 +94,10 @@ watch_answered g whole a b is_admin s names l l' session values level version qu
         ap (λ (q : StandingQuery). News level (slice_index_or q.values level []) version) is
         ∙ ap (λ (n : ℕ). News level (slice_index_or values level []) n) at
 
-    next : state_with b is_admin ≡ kept (state_with a is_admin) s (values_of names)
+    next : state_with b is_admin ≡ state_keeping (state_with a is_admin) s (values_of names)
     next =
         ap (λ (x : OpenSessions). state_with x is_admin) after
-        ∙ ap (λ (o : Option (List (List ℕ))). kept (state_with a is_admin) s o) (sym named)
+        ∙ ap (λ (o : Option (List (List ℕ))). state_keeping (state_with a is_admin) s o) (sym named)
 
 -- Answering it anew.
 
@@ -106,7 +105,7 @@ abbrev asks_anew : ℕ → Shape
 asks_anew s = Looks (ForStanding s)
 
 -- no standing query is found
-pub news_refused : (g : Grounds) (whole : Bool) (now : State) (s : ℕ) (l l' : LinkSeen) (fault : SessionFault)
+pub news_refused : (g : DaemonConfig) (whole : Bool) (now : State) (s : ℕ) (l l' : LinkSeen) (fault : SessionFault)
     (told : Option Refusal) → fault_in s (session_of now s) standing_fault ≡ Some fault →
     told ≡ refusal_of_session fault → Prints whole (reply_text (refused_reply told)) l l' →
     Tells g (asks_anew s) whole now now l l'
@@ -130,7 +129,7 @@ unrefused_by : (s : ℕ) (found : Option Session) (query : StandingQuery) →
 unrefused_by s None query stands = absurd stands
 unrefused_by s (Some session) query stands = rw stands refl
 
-module _ (g : Grounds) (whole : Bool) (v w : PassSeen) (l l' : LinkSeen) (s : ℕ) (query : StandingQuery) where
+module _ (g : DaemonConfig) (whole : Bool) (v w : PassSeen) (l l' : LinkSeen) (s : ℕ) (query : StandingQuery) where
   -- out of memory for the version
   pub news_unpinned : (now : State) → IsSomeAnd (session_of now s) (λ x. x.standing ≡ Some query) → Stays v w →
       Prints whole (reply_text NoMemory) l l' →
@@ -171,7 +170,7 @@ module _ (g : Grounds) (whole : Bool) (v w : PassSeen) (l l' : LinkSeen) (s : �
           query = query;
           found = found.there;
           standing = found.standing;
-          news = record { level = level; told = told; least = least_now };
+          news = record { level = level; exact = told; least = least_now };
         };
         next = next;
       }) prints

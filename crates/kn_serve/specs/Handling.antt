@@ -13,7 +13,7 @@ use Rattle.kn_wire.specs.Requests.{Request, Bye, Faulty}
 use Rattle.kn_reply.specs.Replies.{Reply, No, NoMemory, reply_text}
 use Rattle.kn_wire.specs.Feeding.{Held, next_of}
 use Rattle.kn_daemon.specs.Shapes.{Question, Shape, Asks, shape_of}
-use Rattle.kn_daemon.specs.Daemon.{Grounds, State, Permits, own_refusal}
+use Rattle.kn_daemon.specs.Daemon.{DaemonConfig, State, Permits, own_refusal}
 use Rattle.kn_daemon.specs.Linearized.{update_by, is_placed}
 use Rattle.kn_daemon.specs.Served.{is_bye, is_block}
 use Rattle.kn_daemon.specs.Underway.{IsReplied, IsSmall}
@@ -22,7 +22,7 @@ use Rattle.kn_registry.specs.declared.answer.PinFault.TheVariants as P
 use Rattle.kn_registry.specs.Passes.{PassSeen, Moves}
 use Rattle.kn_serve.specs.declared.connection.Connection.{Connection}
 use Rattle.kn_serve.specs.declared.step.Step.{Step}
-use Rattle.kn_serve.specs.declared.step.Step.TheVariants.{Dry, Answered, SaidBye, Blocked, WriteFailed}
+use Rattle.kn_serve.specs.declared.step.Step.TheVariants.{NoRequest, Answered, SaidBye, BlockRefused, WriteFailed}
 
 -- what a connection has come to
 abbrev pub state_of : Connection → State
@@ -46,7 +46,7 @@ moment pass connection link = in_state (state_of connection) pass link
 
 -- A request of this shape was answered between two moments: what the pass saw meanwhile, and a reply that is permitted
 -- then, which was printed whole or in part. The pass didn't move where the state alone refuses.
-pub record Handles (g : Grounds) (shape : Shape) (whole : Bool) (m m' : Moment) : Type 0 where
+pub record Handles (g : DaemonConfig) (shape : Shape) (whole : Bool) (m m' : Moment) : Type 0 where
   pub reply : Reply
   pub more : List Update
   pub entries : List ℕ
@@ -57,7 +57,7 @@ pub record Handles (g : Grounds) (shape : Shape) (whole : Bool) (m m' : Moment) 
 
 -- A request of this shape was answered by the state alone: a reply that is permitted wherever it stands, which was
 -- printed whole or in part.
-pub record Tells (g : Grounds) (shape : Shape) (whole : Bool) (old new : State) (l l' : LinkSeen) : Type 0 where
+pub record Tells (g : DaemonConfig) (shape : Shape) (whole : Bool) (old new : State) (l l' : LinkSeen) : Type 0 where
   pub reply : Reply
   pub permitted : (caller : ℕ) (past : List Update) → Permits g caller past old shape reply new
   pub no_update : (caller : ℕ) → update_by caller shape reply ≡ None
@@ -65,23 +65,24 @@ pub record Tells (g : Grounds) (shape : Shape) (whole : Bool) (old new : State) 
   pub prints : Prints whole (reply_text reply) l l'
 
 -- the next request was spent and answered
-pub record TakesNext (g : Grounds) (m m' : Moment) (h h' : Held) (request : Request) (whole : Bool) : Type 0 where
+pub record TakesNext (g : DaemonConfig) (m m' : Moment) (h h' : Held) (request : Request) (whole : Bool) : Type 0 where
   pub next : next_of h ≡ Some (request, h')
   pub handled : Handles g (shape_of request) whole m m'
 
 -- the next request, if there is one, was spent and answered
-abbrev pub MakesStep : Grounds → Moment → Moment → Held → Held → Step → Type 0
-MakesStep g m m' h h' Dry = (next_of h ≡ None) × (h' ≡ h) × (m' ≡ m)
+abbrev pub MakesStep : DaemonConfig → Moment → Moment → Held → Held → Step → Type 0
+MakesStep g m m' h h' NoRequest = (next_of h ≡ None) × (h' ≡ h) × (m' ≡ m)
 MakesStep g m m' h h' Answered = (request : Request) × TakesNext g m m' h h' request true × (is_bye request ≡ false)
     × (is_block request ≡ false)
 MakesStep g m m' h h' SaidBye = TakesNext g m m' h h' Bye true
-MakesStep g m m' h h' (Blocked n) = TakesNext g m m' h h' (Faulty (F.Block n)) true
+MakesStep g m m' h h' (BlockRefused n) = TakesNext g m m' h h' (Faulty (F.Block n)) true
 MakesStep g m m' h h' WriteFailed = (request : Request) × TakesNext g m m' h h' request false
 
 -- each question of the session with these names is refused so, or without a refusal memory ran out
 abbrev pub RefusesQuestions : State → ℕ → List ℕ → Option Refusal → Type 0
 RefusesQuestions state s names refusal =
-    (refusal ≡ None) ⊎ ((g : Grounds) (question : Question) → own_refusal g state (Asks question s names) ≡ refusal)
+    (refusal ≡ None)
+    ⊎ ((g : DaemonConfig) (question : Question) → own_refusal g state (Asks question s names) ≡ refusal)
 
 -- the refusal of a query that is too large for a search of its critical assertions; none when out of memory
 abbrev pub refusal_of_critical : CriticalFault → Option Refusal

@@ -11,7 +11,7 @@ use Rattle.kn_daemon.specs.Shapes.{WithProof, WithCritical}
 use Rattle.kn_daemon.specs.Daemon.{State, session_of, equations_of}
 use Rattle.kn_query.specs.declared.kept_bases.KeptBases.{KeptBases}
 use Rattle.kn_serve.specs.declared.last_question.LastAnswer.{LastAnswer}
-use Rattle.kn_serve.specs.Kept.{ArePinned, IsKept}
+use Rattle.kn_serve.specs.KeptBases.{ArePinned, IsKept}
 
 -- the compliance values of the last question, and its answer, as far as they are kept
 pub record LastAsked : Type 0 where
@@ -57,8 +57,7 @@ IsRightAgain state last = (session : Session) (values : List (List ℕ)) (answer
     → length session.pinned ≡ answer.version → IsRight session values answer.answer
 
 -- The answer is the right one to a question by these names of the session of this number, which is pinned to the
--- version
--- of this number.
+-- version of this number.
 pub record IsAnswerTo (state : State) (s : ℕ) (names : List ℕ) (values : List (List ℕ)) (answer : Answer) (version : ℕ)
     : Type 0 where
   pub session : Session

@@ -3,7 +3,7 @@ use Rattle.std.specs.Prelude.{ℕ, ◌≡◌, ◌≢◌, ◌≤◌, ◌<◌, ◌
 use Rattle.std.specs.List.{list_any, last_or}
 use Rattle.kn_base.specs.declared.limits.TheConstants.{REQUESTS}
 use Rattle.kn_outside.specs.Seen.{LinkSeen}
-use Rattle.kn_outside.specs.Told.{more, before}
+use Rattle.kn_outside.specs.SpecifiedBytes.{more, before}
 use Rattle.kn_outside.specs.Reading.{Reads, Fails}
 use Rattle.kn_outside.specs.Faults.{Rose, raised}
 use Rattle.kn_history.specs.declared.update.Update.{Update}
@@ -11,7 +11,7 @@ use Rattle.kn_wire.specs.Requests.{Request, Bye, Takes}
 use Rattle.kn_wire.specs.Feeding.{Held, pushed}
 use Rattle.kn_daemon.specs.declared.ended.Ended.{Ended}
 use Rattle.kn_daemon.specs.declared.ended.Ended.TheVariants as E
-use Rattle.kn_daemon.specs.Daemon.{Grounds}
+use Rattle.kn_daemon.specs.Daemon.{DaemonConfig}
 use Rattle.kn_daemon.specs.Served.{IsServed, is_block}
 use Rattle.kn_daemon.specs.Underway.{IsUnderway}
 use Rattle.kn_registry.specs.Passes.{PassSeen, Moves}
@@ -41,7 +41,8 @@ pub record Gains (v w : PassSeen) (l l' : LinkSeen) (taken written : List ℕ) (
   pub later : l.faults ≤ l'.faults
 
 -- What holds between two requests, where the pass and the link were so at first; no call of the link has failed.
-pub record Serving (g : Grounds) (v : PassSeen) (l : LinkSeen) (m : Moment) (held : Held) (answered : ℕ) : Type 0 where
+pub record Serving (g : DaemonConfig) (v : PassSeen) (l : LinkSeen) (m : Moment) (held : Held) (answered : ℕ) :
+    Type 0 where
   pub taken : List ℕ
   pub written : List ℕ
   pub stops : List ℕ
@@ -59,7 +60,7 @@ HasCause ended l l' = l'.faults ≡ l.faults
 
 -- The call has served the connection: what it took and wrote, what the pass has seen and where it had the turn. When
 -- out of memory the pass is as before.
-pub record Serves (g : Grounds) (v w : PassSeen) (l l' : LinkSeen) (ended : Ended) : Type 0 where
+pub record Serves (g : DaemonConfig) (v w : PassSeen) (l l' : LinkSeen) (ended : Ended) : Type 0 where
   pub taken : List ℕ
   pub written : List ℕ
   pub stops : List ℕ

@@ -1,24 +1,23 @@
 //! The reply to a request.
-ghost use Rattle.std.specs.Prelude.{◌≡◌, true};
 ghost use Rattle.kn_outside.specs.Printing.{is_whole};
-ghost use Rattle.kn_wire.specs.Digits.{IsWellFormed};
+ghost use Rattle.kn_wire.specs.Hex.{IsWellFormed};
 ghost use Rattle.kn_wire.specs.Wired.{request_of};
 ghost use Rattle.kn_registry.specs.Passes.{IsReady};
 ghost use Rattle.kn_daemon.specs.Shapes.{Controls, Leave, AtFault, shape_of};
-ghost use Rattle.kn_daemon.specs.Daemon.{Grounds, State};
-ghost use Rattle.kn_serve.specs.Grounds.{grounds_of};
+ghost use Rattle.kn_daemon.specs.Daemon.{DaemonConfig, State};
+ghost use Rattle.kn_serve.specs.Configs.{config_of};
 ghost use Rattle.kn_serve.specs.Handling.{moment, state_of, HasRoom, Handles, Tells};
-ghost use Rattle.kn_serve.specs.Kept.{ArePinned, IsKept};
-ghost use Rattle.kn_serve.specs.LastQuestions.{IsLastOf, may_keep_answer};
+ghost use Rattle.kn_serve.specs.KeptBases.{ArePinned, IsKept};
+ghost use Rattle.kn_serve.specs.LastQuestions.{IsLastOf};
 
-use crate::admitting::show_secret;
-use crate::calling::{call as answer_call, set_digits};
-use crate::changing::{add, batch, remove};
-use crate::config::DaemonConfig;
+use crate::admin::show_secret;
+use crate::calling::{call as answer_call, set_hex};
+use crate::config::ServeConfig;
 use crate::connection::Connection;
-use crate::logging::log;
+use crate::log::log;
 use crate::opening::{open, pin, pin_at};
 use crate::querying::{critical, query};
+use crate::updates::{add, batch, remove};
 use crate::watching::{news, watch};
 use kn_auth::Authenticator;
 use kn_daemon::shape::{Shape, shape_of};
@@ -31,11 +30,11 @@ use kn_wire::{Request, WireFault};
 use std::alloc::Global;
 use std::sync::Wait;
 
-/// Answers a request. The answer of the last question is forgotten where the request may change what it hangs on.
+/// Answers a request.
 pub(crate) fn answer<R: Wait, A: Authenticator, L: Link, G: Gate>(
     rt: &R,
     alloc: Global,
-    config: &DaemonConfig<'_, A, G>,
+    config: &ServeConfig<'_, A, G>,
     pass: &mut Pass,
     connection: &mut Connection,
     kept: &mut KeptBases,
@@ -51,57 +50,8 @@ pub(crate) fn answer<R: Wait, A: Authenticator, L: Link, G: Gate>(
     ensures ready { IsReady config.now.registry.now pass.new }
     ensures of_history { IsKept pass.new.seen kept.new }
     ensures last { IsLastOf pass.new.seen (state_of connection.new) connection.new.last }
-    ensures handled { Handles (grounds_of A.verdict config.now) (shape_of (request_of request.entry)) (is_whole result)
+    ensures handled { Handles (config_of A.verdict config.now) (shape_of (request_of request.entry)) (is_whole result)
         (moment pass.old connection.old (L.seen link.old)) (moment pass.new connection.new (L.seen link.new)) }
-{
-    let keeps = keeps_answer(&request);
-    let told = dispatch(rt, alloc, config, pass, connection, kept, request, link);
-    if !keeps {
-        connection.last.forget();
-    }
-    told
-}
-
-// Whether a request changes nothing that the answer of the last question hangs on.
-fn keeps_answer(request: &Request<'_>) -> bool
-    ensures { result ≡ true → may_keep_answer (shape_of (request_of request.now)) ≡ true }
-{
-    matches!(
-        request,
-        Request::Query { .. }
-            | Request::Critical { .. }
-            | Request::Pin { .. }
-            | Request::PinAt { .. }
-            | Request::Add { .. }
-            | Request::Remove { .. }
-            | Request::Batch { .. }
-            | Request::Log { .. }
-    )
-}
-
-/// Answers a request by its shape.
-fn dispatch<R: Wait, A: Authenticator, L: Link, G: Gate>(
-    rt: &R,
-    alloc: Global,
-    config: &DaemonConfig<'_, A, G>,
-    pass: &mut Pass,
-    connection: &mut Connection,
-    kept: &mut KeptBases,
-    request: Request<'_>,
-    link: &mut L,
-) -> Result<(), Failed>
-    requires ready { IsReady config.now.registry.now pass.old }
-    requires room { HasRoom (state_of connection.old) }
-    requires form { IsWellFormed (request_of request) }
-    requires pinned { ArePinned pass.old.seen (state_of connection.old) }
-    requires of_history { IsKept pass.old.seen kept.old }
-    requires last { IsLastOf pass.old.seen (state_of connection.old) connection.old.last }
-    ensures ready { IsReady config.now.registry.now pass.new }
-    ensures of_history { IsKept pass.new.seen kept.new }
-    ensures handled { Handles (grounds_of A.verdict config.now) (shape_of (request_of request.entry)) (is_whole result)
-        (moment pass.old connection.old (L.seen link.old)) (moment pass.new connection.new (L.seen link.new)) }
-    ensures last { may_keep_answer (shape_of (request_of request.entry)) ≡ true
-        → IsLastOf pass.new.seen (state_of connection.new) connection.new.last }
 {
     match shape_of(request) {
         Shape::Open => open(rt, config.registry, pass, connection, link),
@@ -114,9 +64,7 @@ fn dispatch<R: Wait, A: Authenticator, L: Link, G: Gate>(
         Shape::Batch { block } => batch(rt, alloc, config, pass, connection, block, link),
         Shape::Log { n } => log(rt, config.registry, pass, connection, n, link),
         Shape::Call { s, call } => answer_call(alloc, connection, s, call, link),
-        Shape::SetDigits { s, name, digits } => set_digits(
-            alloc, connection, s, name, digits, link,
-        ),
+        Shape::SetDigits { s, name, digits } => set_hex(alloc, connection, s, name, digits, link),
         Shape::News { s } => news(rt, alloc, config.registry, pass, connection, kept, s, link),
         Shape::Query { s, values } => query(alloc, connection, kept, s, values, link),
         Shape::Watch { s, values } => watch(alloc, connection, kept, s, values, link),
@@ -128,7 +76,7 @@ fn dispatch<R: Wait, A: Authenticator, L: Link, G: Gate>(
 
 /// Answers BYE.
 fn say_bye<L: Link>(link: &mut L) -> Result<(), Failed>
-    ensures told { (g : Grounds) (now : State)
+    ensures exact { (g : DaemonConfig) (now : State)
         → Tells g (Controls Leave) (is_whole result) now now (L.seen link.old) (L.seen link.new) }
 {
     print(&Reply::Ok, link)
@@ -136,7 +84,7 @@ fn say_bye<L: Link>(link: &mut L) -> Result<(), Failed>
 
 /// Answers a line that is no request, or a block that is refused.
 pub(crate) fn refuse<L: Link>(fault: WireFault, link: &mut L) -> Result<(), Failed>
-    ensures told { (g : Grounds) (now : State)
+    ensures exact { (g : DaemonConfig) (now : State)
         → Tells g (AtFault fault) (is_whole result) now now (L.seen link.old) (L.seen link.new) }
 {
     print(&Reply::No(refusal_of_fault(fault)), link)

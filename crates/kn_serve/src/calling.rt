@@ -1,12 +1,12 @@
 //! The calls of a session.
-ghost use Rattle.std.specs.Prelude.{◌≡◌, ◌≤◌, length, true};
+ghost use Rattle.std.specs.Prelude.{◌≡◌, ◌≤◌, None, length, true};
 ghost use Rattle.kn_base.specs.declared.limits.TheConstants.{ASSERTION_BYTES};
 ghost use Rattle.kn_outside.specs.Printing.{is_whole};
 ghost use Rattle.kn_session.specs.Calls.{Set, call_of, asserted};
-ghost use Rattle.kn_wire.specs.Digits.{bytes_of_digits};
-ghost use Rattle.kn_wire.specs.Requests.{are_digits};
+ghost use Rattle.kn_wire.specs.Hex.{bytes_of_hex};
+ghost use Rattle.kn_wire.specs.Requests.{is_hex};
 ghost use Rattle.kn_daemon.specs.Shapes.{Calls};
-ghost use Rattle.kn_daemon.specs.Daemon.{Grounds};
+ghost use Rattle.kn_daemon.specs.Daemon.{DaemonConfig};
 ghost use Rattle.kn_serve.specs.Handling.{state_of, HasRoom, Tells};
 
 use crate::connection::Connection;
@@ -16,10 +16,10 @@ use kn_outside::{Failed, Link};
 use kn_refusals::refusal_of_call;
 use kn_reply::{Reply, print};
 use kn_session::Call;
-use kn_wire::decode_digits;
+use kn_wire::decode_hex;
 use std::alloc::Global;
 
-/// Answers a call of a session.
+/// Answers a call of a session. It may change what the last answer hangs on, so that is forgotten.
 pub(crate) fn call<L: Link>(
     alloc: Global,
     connection: &mut Connection,
@@ -29,17 +29,19 @@ pub(crate) fn call<L: Link>(
 ) -> Result<(), Failed>
     requires room { HasRoom (state_of connection.old) }
     requires short { length (asserted (call_of call)) ≤ ASSERTION_BYTES }
-    ensures told { (g : Grounds) → Tells g (Calls s (call_of call.entry)) (is_whole result)
+    ensures forgotten { connection.new.last.answer ≡ None }
+    ensures exact { (g : DaemonConfig) → Tells g (Calls s (call_of call.entry)) (is_whole result)
         (state_of connection.old) (state_of connection.new) (L.seen link.old) (L.seen link.new) }
 {
+    connection.last.forget();
     match connection.sessions.apply(alloc, s, call) {
         Ok(applied) => print_applied(applied, link),
         Err(fault) => print_refusal(refusal_of_call(&fault), link),
     }
 }
 
-/// Answers the call that sets an attribute to the bytes of digits.
-pub(crate) fn set_digits<L: Link>(
+/// Answers the call that sets an attribute to the bytes of digits. The last answer is forgotten.
+pub(crate) fn set_hex<L: Link>(
     alloc: Global,
     connection: &mut Connection,
     s: u32,
@@ -48,11 +50,13 @@ pub(crate) fn set_digits<L: Link>(
     link: &mut L,
 ) -> Result<(), Failed>
     requires room { HasRoom (state_of connection.old) }
-    requires digits { are_digits digits.now ≡ true }
-    ensures told { (g : Grounds) → Tells g (Calls s (Set name.now (bytes_of_digits digits.now))) (is_whole result)
+    requires digits { is_hex digits.now ≡ true }
+    ensures forgotten { connection.new.last.answer ≡ None }
+    ensures exact { (g : DaemonConfig) → Tells g (Calls s (Set name.now (bytes_of_hex digits.now))) (is_whole result)
         (state_of connection.old) (state_of connection.new) (L.seen link.old) (L.seen link.new) }
 {
-    match decode_digits(alloc, digits) {
+    connection.last.forget();
+    match decode_hex(alloc, digits) {
         Ok(bytes) => {
             let value = bytes.as_slice();
             call(alloc, connection, s, Call::Set { name, value }, link)

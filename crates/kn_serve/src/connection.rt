@@ -16,6 +16,7 @@ pub(crate) struct Connection {
 }
 
 impl Connection {
+    /// A connection at its beginning: no session is open, no secret was shown, and nothing was asked.
     pub fn new(alloc: Global) -> Connection
         ensures state { state_of result ≡ first_state }
         ensures last { result.last.answer ≡ None }

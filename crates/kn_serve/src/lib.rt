@@ -3,21 +3,21 @@
 //! Each connection is served as by one thread over one history of updates, whatever other callers do meanwhile.
 #![tactic(auto)]
 
-mod admitting;
+mod admin;
+mod admission;
 mod answering;
 mod calling;
-mod changing;
 mod config;
 mod connection;
 mod filling;
-mod judging;
 mod last_question;
-mod logging;
+mod log;
 mod opening;
 mod querying;
 mod refusals;
 mod serving;
 mod step;
+mod updates;
 mod watching;
 
 pub use kn_daemon::ended::Ended;

@@ -1,11 +1,11 @@
 //! Opening a session, and pinning one to the newest version or to a retained one.
-ghost use Rattle.std.specs.Prelude.{◌≡◌};
+ghost use Rattle.std.specs.Prelude.{◌≡◌, None};
 ghost use Rattle.kn_outside.specs.Printing.{is_whole};
 ghost use Rattle.kn_registry.specs.Passes.{IsReady};
 ghost use Rattle.kn_daemon.specs.Shapes.{Looks, ForNew, ForOpen, ForRetained};
-ghost use Rattle.kn_daemon.specs.Daemon.{Grounds};
+ghost use Rattle.kn_daemon.specs.Daemon.{DaemonConfig};
 ghost use Rattle.kn_serve.specs.Handling.{moment, state_of, HasRoom, Handles};
-ghost use Rattle.kn_serve.specs.Kept.{ArePinned};
+ghost use Rattle.kn_serve.specs.KeptBases.{ArePinned};
 
 use crate::connection::Connection;
 use crate::refusals::{print_refusal, refusal_of_version};
@@ -16,7 +16,7 @@ use kn_registry::{Pass, Registry};
 use kn_reply::{LimitWord, Refusal, Reply, print};
 use std::sync::Wait;
 
-/// Answers OPEN.
+/// Answers OPEN. The last answer is forgotten.
 pub(crate) fn open<R: Wait, L: Link>(
     rt: &R,
     reg: &Registry,
@@ -27,9 +27,11 @@ pub(crate) fn open<R: Wait, L: Link>(
     requires ready { IsReady reg.now pass.old }
     requires room { HasRoom (state_of connection.old) }
     ensures ready { IsReady reg.now pass.new }
-    ensures handled { (g : Grounds) → Handles g (Looks ForNew) (is_whole result)
+    ensures forgotten { connection.new.last.answer ≡ None }
+    ensures handled { (g : DaemonConfig) → Handles g (Looks ForNew) (is_whole result)
         (moment pass.old connection.old (L.seen link.old)) (moment pass.new connection.new (L.seen link.new)) }
 {
+    connection.last.forget();
     let count = connection.sessions.len();
     if count >= SESSIONS {
         let word = LimitWord::Sessions;
@@ -59,7 +61,7 @@ pub(crate) fn pin<R: Wait, L: Link>(
     requires pinned { ArePinned pass.old.seen (state_of connection.old) }
     ensures ready { IsReady reg.now pass.new }
     ensures last { connection.new.last ≡ connection.old.last }
-    ensures handled { (g : Grounds) → Handles g (Looks (ForOpen s)) (is_whole result)
+    ensures handled { (g : DaemonConfig) → Handles g (Looks (ForOpen s)) (is_whole result)
         (moment pass.old connection.old (L.seen link.old)) (moment pass.new connection.new (L.seen link.new)) }
 {
     let view = match connection.sessions.view(s) {
@@ -90,7 +92,7 @@ pub(crate) fn pin_at<R: Wait, L: Link>(
     requires ready { IsReady reg.now pass.old }
     ensures ready { IsReady reg.now pass.new }
     ensures last { connection.new.last ≡ connection.old.last }
-    ensures handled { (g : Grounds) → Handles g (Looks (ForRetained s version)) (is_whole result)
+    ensures handled { (g : DaemonConfig) → Handles g (Looks (ForRetained s version)) (is_whole result)
         (moment pass.old connection.old (L.seen link.old)) (moment pass.new connection.new (L.seen link.new)) }
 {
     match connection.sessions.view(s) {

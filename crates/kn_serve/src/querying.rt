@@ -6,9 +6,9 @@ ghost use Rattle.kn_outside.specs.Printing.{Prints, is_whole};
 ghost use Rattle.kn_reply.specs.Replies.{Value, reply_text};
 ghost use Rattle.kn_session.specs.Views.{session_of_view, AreReadPrivates, ArePrivates};
 ghost use Rattle.kn_daemon.specs.Shapes.{Asks, WithProof, WithCritical};
-ghost use Rattle.kn_daemon.specs.Daemon.{Grounds, session_of};
+ghost use Rattle.kn_daemon.specs.Daemon.{DaemonConfig, session_of};
 ghost use Rattle.kn_serve.specs.Handling.{state_of, RefusesQuestions, Tells};
-ghost use Rattle.kn_serve.specs.Kept.{StaysOf};
+ghost use Rattle.kn_serve.specs.KeptBases.{StaysOf};
 ghost use Rattle.kn_serve.specs.LastQuestions.{AreAllOfOneWithLast, IsAnswerTo, IsRightAgain, LastStays};
 
 use crate::connection::Connection;
@@ -67,7 +67,7 @@ pub(crate) fn query<L: Link>(
     ensures stays { StaysOf (state_of connection.old) kept.old kept.new }
     ensures last { LastStays (state_of connection.old) connection.old.last
         (state_of connection.new) connection.new.last }
-    ensures told { (g : Grounds) → Tells g (Asks WithProof s names.now) (is_whole result)
+    ensures exact { (g : DaemonConfig) → Tells g (Asks WithProof s names.now) (is_whole result)
         (state_of connection.old) (state_of connection.new) (L.seen link.old) (L.seen link.new) }
 {
     if let Some((values, answer, version)) = last_answer(connection, s, names) {
@@ -83,10 +83,10 @@ pub(crate) fn query<L: Link>(
         Err(NoMemory) => return print(&Reply::NoMemory, link),
     };
     let version = view.snapshot.number();
-    let told = tell_answer(&answer, &values, version, link);
+    let written = tell_answer(&answer, &values, version, link);
     let last = LastAnswer { s, version, answer };
     connection.last.keep(alloc, names, values, last);
-    told
+    written
 }
 
 /// The answer of the last question with its compliance values and the number of its version, where it is the answer to
@@ -142,7 +142,7 @@ pub(crate) fn critical<L: Link>(
     names: &[u8],
     link: &mut L,
 ) -> Result<(), Failed>
-    ensures told { (g : Grounds) → Tells g (Asks WithCritical s names.now) (is_whole result)
+    ensures exact { (g : DaemonConfig) → Tells g (Asks WithCritical s names.now) (is_whole result)
         (state_of connection.now) (state_of connection.now) (L.seen link.old) (L.seen link.new) }
 {
     let (view, values) = match read_question(alloc, connection, None, s, names) {

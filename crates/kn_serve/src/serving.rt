@@ -1,11 +1,11 @@
 //! Serving a connection to its end.
 ghost use Rattle.std.specs.Prelude.{◌≡◌, ◌⊎◌, IfSome};
 ghost use Rattle.kn_registry.specs.Passes.{IsReady};
-ghost use Rattle.kn_serve.specs.Grounds.{grounds_by, grounds_of};
-ghost use Rattle.kn_serve.specs.Kept.{IsKept};
+ghost use Rattle.kn_serve.specs.Configs.{config_by, config_of};
+ghost use Rattle.kn_serve.specs.KeptBases.{IsKept};
 ghost use Rattle.kn_serve.specs.Serving.{Serves, IsOrderly, IsFaultless};
 
-use crate::config::DaemonConfig;
+use crate::config::ServeConfig;
 use crate::connection::Connection;
 use crate::filling::{Fill, end_of, read_more};
 use crate::step::{Step, answer_next};
@@ -38,7 +38,7 @@ pub fn serve_connection<R: Wait, A: Authenticator, L: Link, G: Gate>(
 ) -> Ended
     requires ready { IsReady reg.now pass.old }
     ensures ready { IsReady reg.now pass.new }
-    ensures serves { Serves (grounds_by A.verdict auth.now secret.now)
+    ensures serves { Serves (config_by A.verdict auth.now secret.now)
         pass.old pass.new (L.seen link.old) (L.seen link.new) result }
     // Where the link tells an input that is in order, and no call of it fails, all is answered unless memory runs out.
     ensures complete { IfSome (L.seen link.old).left (λ input.
@@ -66,13 +66,13 @@ pub fn serve_with_base<R: Wait, A: Authenticator, L: Link, G: Gate>(
     requires of_history { IsKept pass.old.seen kept.old }
     ensures ready { IsReady reg.now pass.new }
     ensures of_history { IsKept pass.new.seen kept.new }
-    ensures serves { Serves (grounds_by A.verdict auth.now secret.now)
+    ensures serves { Serves (config_by A.verdict auth.now secret.now)
         pass.old pass.new (L.seen link.old) (L.seen link.new) result }
     ensures complete { IfSome (L.seen link.old).left (λ input.
         IsOrderly input → IsFaultless (L.seen link.old) (L.seen link.new)
         → (result ≡ Ended.Done) ⊎ (result ≡ Ended.Memory)) }
 {
-    let config = DaemonConfig {
+    let config = ServeConfig {
         registry: reg,
         authenticator: auth,
         secret,
@@ -84,7 +84,7 @@ pub fn serve_with_base<R: Wait, A: Authenticator, L: Link, G: Gate>(
 fn serve_requests<R: Wait, A: Authenticator, L: Link, G: Gate>(
     rt: &R,
     alloc: Global,
-    config: &DaemonConfig<'_, A, G>,
+    config: &ServeConfig<'_, A, G>,
     pass: &mut Pass,
     link: &mut L,
     kept: &mut KeptBases,
@@ -93,7 +93,7 @@ fn serve_requests<R: Wait, A: Authenticator, L: Link, G: Gate>(
     requires of_history { IsKept pass.old.seen kept.old }
     ensures ready { IsReady config.now.registry.now pass.new }
     ensures of_history { IsKept pass.new.seen kept.new }
-    ensures serves { Serves (grounds_of A.verdict config.now)
+    ensures serves { Serves (config_of A.verdict config.now)
         pass.old pass.new (L.seen link.old) (L.seen link.new) result }
 {
     laws::serving_begins();
@@ -127,9 +127,9 @@ fn serve_requests<R: Wait, A: Authenticator, L: Link, G: Gate>(
                 }
             }
             Step::SaidBye => return Ended::Done,
-            Step::Blocked { n } => return Ended::Block { n },
+            Step::BlockRefused { n } => return Ended::Block { n },
             Step::WriteFailed => return Ended::WriteFault,
-            Step::Dry => match read_more(&mut feed, link) {
+            Step::NoRequest => match read_more(&mut feed, link) {
                 Fill::More => {}
                 Fill::Failed => return Ended::ReadFault,
                 Fill::End => return end_of(&feed),

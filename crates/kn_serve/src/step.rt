@@ -5,13 +5,13 @@ ghost use Rattle.kn_wire.specs.Wired.{request_of};
 ghost use Rattle.kn_daemon.specs.Served.{is_bye, is_block};
 ghost use Rattle.kn_wire.specs.Feeds.{held};
 ghost use Rattle.kn_registry.specs.Passes.{IsReady};
-ghost use Rattle.kn_serve.specs.Grounds.{grounds_of};
+ghost use Rattle.kn_serve.specs.Configs.{config_of};
 ghost use Rattle.kn_serve.specs.Handling.{moment, state_of, HasRoom, MakesStep};
-ghost use Rattle.kn_serve.specs.Kept.{ArePinned, IsKept};
+ghost use Rattle.kn_serve.specs.KeptBases.{ArePinned, IsKept};
 ghost use Rattle.kn_serve.specs.LastQuestions.{IsLastOf};
 
 use crate::answering::{answer, refuse};
-use crate::config::DaemonConfig;
+use crate::config::ServeConfig;
 use crate::connection::Connection;
 use kn_auth::Authenticator;
 use kn_outside::{Failed, Gate, Link};
@@ -25,10 +25,10 @@ use std::sync::Wait;
 #[derive(Drop)]
 pub(crate) enum Step {
     /// There is none yet.
-    Dry,
+    NoRequest,
     Answered,
     SaidBye,
-    Blocked { n: usize },
+    BlockRefused { n: usize },
     WriteFailed,
 }
 
@@ -36,7 +36,7 @@ pub(crate) enum Step {
 pub(crate) fn answer_next<R: Wait, A: Authenticator, L: Link, G: Gate>(
     rt: &R,
     alloc: Global,
-    config: &DaemonConfig<'_, A, G>,
+    config: &ServeConfig<'_, A, G>,
     pass: &mut Pass,
     connection: &mut Connection,
     kept: &mut KeptBases,
@@ -52,12 +52,12 @@ pub(crate) fn answer_next<R: Wait, A: Authenticator, L: Link, G: Gate>(
     ensures ready { IsReady config.now.registry.now pass.new }
     ensures of_history { IsKept pass.new.seen kept.new }
     ensures last { IsLastOf pass.new.seen (state_of connection.new) connection.new.last }
-    ensures stepped { MakesStep (grounds_of A.verdict config.now)
+    ensures stepped { MakesStep (config_of A.verdict config.now)
         (moment pass.old connection.old (L.seen link.old)) (moment pass.new connection.new (L.seen link.new))
         (held feed.old) (held feed.new) result }
 {
     match feed.next() {
-        Ok(None) => Step::Dry,
+        Ok(None) => Step::NoRequest,
         Ok(Some(request)) => {
             let is_bye = says_bye(&request);
             config.gate.before_reply(rt, pass.number(), place);
@@ -74,7 +74,7 @@ pub(crate) fn answer_next<R: Wait, A: Authenticator, L: Link, G: Gate>(
             config.gate.before_reply(rt, pass.number(), place);
             match refuse(fault, link) {
                 Ok(()) => match fault {
-                    WireFault::Block { n } => Step::Blocked { n },
+                    WireFault::Block { n } => Step::BlockRefused { n },
                     WireFault::Syntax | WireFault::Command | WireFault::Long => Step::Answered,
                 },
                 Err(Failed) => Step::WriteFailed,

@@ -1,12 +1,12 @@
 //! The standing query of a session: it is kept, and answered anew over the newest version.
-ghost use Rattle.std.specs.Prelude.{◌<◌, [], length, slice_index_or};
+ghost use Rattle.std.specs.Prelude.{◌≡◌, ◌<◌, None, [], length, slice_index_or};
 ghost use Rattle.kn_outside.specs.Printing.{Prints, is_whole};
 ghost use Rattle.kn_registry.specs.Passes.{IsReady};
 ghost use Rattle.kn_reply.specs.Replies.{News, reply_text};
 ghost use Rattle.kn_daemon.specs.Shapes.{Asks, Looks, ToKeep, ForStanding};
-ghost use Rattle.kn_daemon.specs.Daemon.{Grounds};
+ghost use Rattle.kn_daemon.specs.Daemon.{DaemonConfig};
 ghost use Rattle.kn_serve.specs.Handling.{moment, state_of, Handles, Tells};
-ghost use Rattle.kn_serve.specs.Kept.{AreAllOfOne, IsKept, StaysOf};
+ghost use Rattle.kn_serve.specs.KeptBases.{AreAllOfOne, IsKept, StaysOf};
 
 use crate::connection::Connection;
 use crate::querying::read_question;
@@ -21,7 +21,7 @@ use kn_session::StandingQuery;
 use std::alloc::Global;
 use std::sync::Wait;
 
-/// Answers WATCH. The query is kept once its answer is found.
+/// Answers WATCH. The query is kept once its answer is found. The last answer is forgotten.
 pub(crate) fn watch<L: Link>(
     alloc: Global,
     connection: &mut Connection,
@@ -32,9 +32,11 @@ pub(crate) fn watch<L: Link>(
 ) -> Result<(), Failed>
     requires one_history { AreAllOfOne (state_of connection.old) kept.old }
     ensures stays { StaysOf (state_of connection.old) kept.old kept.new }
-    ensures told { (g : Grounds) → Tells g (Asks ToKeep s names.now) (is_whole result)
+    ensures forgotten { connection.new.last.answer ≡ None }
+    ensures exact { (g : DaemonConfig) → Tells g (Asks ToKeep s names.now) (is_whole result)
         (state_of connection.old) (state_of connection.new) (L.seen link.old) (L.seen link.new) }
 {
+    connection.last.forget();
     let (view, values) = match read_question(alloc, connection, None, s, names) {
         Ok(asked) => asked,
         Err(refusal) => return print_refusal(refusal, link),
@@ -55,7 +57,7 @@ pub(crate) fn watch<L: Link>(
 }
 
 /// Answers NEWS. The standing query moves to the version that its answer holds of, whether or not all of the reply
-/// could be written.
+/// could be written. The last answer is forgotten.
 pub(crate) fn news<R: Wait, L: Link>(
     rt: &R,
     alloc: Global,
@@ -70,9 +72,11 @@ pub(crate) fn news<R: Wait, L: Link>(
     requires of_history { IsKept pass.old.seen kept.old }
     ensures ready { IsReady reg.now pass.new }
     ensures of_history { IsKept pass.new.seen kept.new }
-    ensures handled { (g : Grounds) → Handles g (Looks (ForStanding s)) (is_whole result)
+    ensures forgotten { connection.new.last.answer ≡ None }
+    ensures handled { (g : DaemonConfig) → Handles g (Looks (ForStanding s)) (is_whole result)
         (moment pass.old connection.old (L.seen link.old)) (moment pass.new connection.new (L.seen link.new)) }
 {
+    connection.last.forget();
     let query = match connection.sessions.standing(s) {
         Ok(query) => query,
         Err(fault) => return print_refusal(refusal_of_session(fault), link),
@@ -86,9 +90,9 @@ pub(crate) fn news<R: Wait, L: Link>(
         Ok(answer) => answer,
         Err(NoMemory) => return print(&Reply::NoMemory, link),
     };
-    let told = tell_news(query, answer.value, snapshot.number(), link);
+    let written = tell_news(query, answer.value, snapshot.number(), link);
     match connection.sessions.move_standing(s, snapshot) {
-        Ok(()) => told,
+        Ok(()) => written,
         Err(_) => unreachable!(),
     }
 }

@@ -13,7 +13,7 @@ use Rattle.kn_session.specs.Calls.{add_requester, is_named}
 use Rattle.kn_session.specs.Calls.{Call, call_change, IsDue}
 use Rattle.kn_session.specs.Calls as C
 use Rattle.kn_session.specs.Connection.{fault_at, with_open_session, AreNumbers, AreOpen}
-use Rattle.kn_session.specs.Placed.{IsOneAt}
+use Rattle.kn_session.specs.OnePlace.{IsOneAt}
 use Rattle.kn_env.proofs.Requesters.{AllByRecursion-push}
 use Rattle.kn_session.proofs.Closing.{next_is_new, AllByRecursion-remove, AllByRecursion-weaker, IsDistinct-push}
 use Rattle.kn_session.proofs.Closing.{IsDistinct-remove, map-set_same, map-remove}

@@ -22,7 +22,7 @@ use Rattle.kn_session.specs.Calls.{private_fault, private_bytes, auth_fault, is_
 use Rattle.kn_session.specs.Views.{numbered_text, ids_of, IsReadPrivate, ArePrivates, AreNormalForms, IsSession, IsKept}
 use Rattle.kn_session.proofs.Closing.{next_is_new, AllByRecursion-remove, AllByRecursion-weaker, IsDistinct-push}
 use Rattle.kn_session.proofs.Closing.{IsDistinct-remove, map-remove}
-use Rattle.kn_session.proofs.Naming.{requesters_more, forms_more, requesters_fewer, forms_fewer}
+use Rattle.kn_session.proofs.Requesters.{requesters_more, forms_more, requesters_fewer, forms_fewer}
 
 -- a fault that doesn't apply
 passed : (b : Bool) (fault : SessionFault) (next : Option SessionFault) → fault_if b fault next ≡ None → b ≡ false

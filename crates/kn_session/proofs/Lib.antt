@@ -1,9 +1,9 @@
-pub mod OneAt
+pub mod OnePlace
 pub mod Closing
 pub mod Calls
 pub mod Applying
-pub mod Naming
+pub mod Requesters
 pub mod Keeping
 pub mod Taking
-pub mod Together
+pub mod SessionTexts
 pub mod StandingQueries

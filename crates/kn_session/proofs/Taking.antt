@@ -10,9 +10,9 @@ use Rattle.kn_session.specs.declared.view.Private.{Private}
 use Rattle.kn_session.specs.Sessions.{Session, fault_if}
 use Rattle.kn_session.specs.Calls.{retract_fault, is_named, take_private, take_requester}
 use Rattle.kn_session.specs.Views.{numbered_text, ids_of, IsKept, AreNormalForms}
-use Rattle.kn_session.specs.Placed.{IsOneAt}
-use Rattle.kn_session.proofs.OneAt.{one_at, one_number, none_passes, some_passes}
-use Rattle.kn_session.proofs.Naming.{one_name}
+use Rattle.kn_session.specs.OnePlace.{IsOneAt}
+use Rattle.kn_session.proofs.OnePlace.{one_at, one_number, none_passes, some_passes}
+use Rattle.kn_session.proofs.Requesters.{one_name}
 
 ids_of-texts : (ps : List Private) → ids_of (map numbered_text ps) ≡ map (λ (p : Private). p.id) ps
 ids_of-texts [] = refl

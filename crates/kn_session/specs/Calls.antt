@@ -237,7 +237,7 @@ lacks_memory (T.Text fault) = is_none (fault_number fault)
 lacks_memory (T.Session F.NoMemory) = true
 lacks_memory (T.Session fault) = false
 
--- the place in an assertion's text that is told with a fault
+-- the place in an assertion's text that is given with a fault
 abbrev pub place_of_fault : CallFault → ℕ
 place_of_fault (T.Text fault) = fault_place fault
 place_of_fault (T.Session fault) = 0

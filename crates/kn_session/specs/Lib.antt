@@ -3,5 +3,5 @@ pub mod Calls
 pub mod Views
 pub mod Fields
 pub mod Connection
-pub mod Placed
+pub mod OnePlace
 pub mod Laws

@@ -26,6 +26,7 @@ pub enum Call<'a> {
 /// What an accepted call gives.
 #[derive(Clone, Copy, PartialEq, Eq, Drop)]
 pub enum Applied {
+    /// The call was made, and gives nothing.
     Done,
     /// The private assertion was added under this id.
     Added { k: u32 },

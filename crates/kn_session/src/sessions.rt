@@ -10,7 +10,7 @@ ghost use Rattle.kn_session.specs.Sessions.{watch_with, move_standing, standing_
 ghost use Rattle.kn_session.specs.Calls.{private_fault, retract_fault, set_fault, unset_fault, auth_fault};
 ghost use Rattle.kn_session.specs.Calls.{unauth_fault, add_private, take_private, set_attribute, unset_attribute};
 ghost use Rattle.kn_session.specs.Calls.{add_requester, take_requester, cleared, answer_done};
-ghost use Rattle.kn_session.specs.Placed.{IsOneAt};
+ghost use Rattle.kn_session.specs.OnePlace.{IsOneAt};
 ghost use Rattle.kn_session.specs.declared.fault.SessionFault.{SessionFault};
 ghost use Rattle.kn_session.specs.declared.fault.SessionFault.TheVariants as F;
 
@@ -366,6 +366,7 @@ impl Sessions {
         self.sessions.len() as u32
     }
 
+    /// Whether no session is open.
     pub fn is_empty(&self) -> bool
         ensures { IsTrue result ↔ (self.now.sessions ≡ []) }
     {

@@ -2,8 +2,8 @@
 -- counted, and which rows wait for their level.
 use Rattle.std.specs.Prelude.{ℕ, ◌+◌, ◌-◌, ◌*◌, ◌==◌, ◌≡◌, ◌≢◌, ◌<◌, ◌≤◌, Bool, true, false, nat_le, nat_lt, min, Some}
 use Rattle.std.specs.Prelude.{List, [], ◌∷◌, length, take, slice_get, slice_index, slice_index_or, if◌then◌else◌}
-use Rattle.kn_system.specs.declared.links.Up.{Up}
-use Rattle.kn_system.specs.declared.links.Up.TheVariants.{Node, Row}
+use Rattle.kn_system.specs.declared.nodes.Up.{Up}
+use Rattle.kn_system.specs.declared.nodes.Up.TheVariants.{Node, Row}
 use Rattle.kn_system.specs.declared.rows.Piece.{Piece}
 use Rattle.kn_system.specs.declared.rows.Piece.TheVariants.{Who, Gate}
 use Rattle.kn_system.specs.Counts.{IsWithin}

@@ -1,5 +1,5 @@
 pub mod Counters
 pub mod QuerySystem
-pub mod Begun
+pub mod FirstLevels
 pub mod Blank
 pub mod Reach

@@ -6,7 +6,7 @@ ghost use Rattle.kn_settle.specs.Counters.{IsPending, IsVisit, bucket_at, piece_
 ghost use Rattle.kn_settle.specs.Blank.{AreTrailed};
 ghost use Rattle.kn_settle.specs.Reach.{IsPut};
 ghost use Rattle.kn_system.specs.Counts.{IsWithin};
-ghost use Rattle.kn_system.specs.declared.links.NodeSort.TheVariants.{Gate};
+ghost use Rattle.kn_system.specs.declared.nodes.NodeSort.TheVariants.{Gate};
 ghost use Rattle.kn_system.specs.declared.rows.Piece.TheVariants.{Who};
 ghost use Rattle.kn_system.specs.Equations.{IsSystem, node_total, row_at};
 

@@ -5,7 +5,7 @@ ghost use Rattle.kn_base.specs.declared.limits.TheConstants.{FEWEST_COMPLIANCE_V
 ghost use Rattle.kn_settle.specs.QuerySystem.{query_system, IsOther};
 ghost use Rattle.kn_system.specs.Equations.{IsSystem, node_total, row_at};
 ghost use Rattle.kn_system.specs.Nodes.{pieces_of, sort_of, ups_of_rows, uses_of};
-ghost use Rattle.kn_system.specs.declared.links.Up.TheVariants.{Row};
+ghost use Rattle.kn_system.specs.declared.nodes.Up.TheVariants.{Row};
 ghost use Rattle.kn_system.specs.declared.rows.Piece.TheVariants.{Who};
 
 use crate::ceilings::Ceilings;
@@ -49,6 +49,7 @@ impl<'a, L, C: Ceilings<L>> QuerySystem<'a, L, C> {
         requires low { All (λ ceiling. ceiling < levels) (C.each ceilings.now) }
         ensures { result ≡ query_system base.now levels requesters.now (C.each ceilings.now) }
     {
+        // The contract of `levels` says that the base is well formed.
         let _levels = base.levels();
         QuerySystem {
             base,

@@ -12,6 +12,7 @@ pub(crate) fn requesters_of<L>(alloc: Global, system: &System<L>) -> Result<List
         ≡ system.now.requesters) }
     ensures others { IfOk result (λ numbers. All (IsOther (length system.now.requesters)) numbers) }
 {
+    // The contract of `levels` says that the system is well formed: principal 0, `POLICY`, is no requester.
     let _levels = system.levels();
     let mut numbers = List::new(alloc);
     for principal in 1..system.principals() {

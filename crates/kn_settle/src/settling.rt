@@ -3,7 +3,7 @@ ghost use Rattle.std.specs.Prelude.{◌≡◌, ◌<◌, ◌≤◌, ◌-◌, ◌*
 ghost use Rattle.std.specs.Prelude.{All, length, replicate, IfOk, OnOk, slice_index};
 ghost use Rattle.kn_base.specs.declared.limits.TheConstants.{FEWEST_COMPLIANCE_VALUES, MOST_COMPLIANCE_VALUES};
 ghost use Rattle.kn_settle.specs.QuerySystem.{query_system, flags_from, IsOther};
-ghost use Rattle.kn_settle.specs.Begun.{AreBegun};
+ghost use Rattle.kn_settle.specs.FirstLevels.{AreBegun};
 ghost use Rattle.kn_settle.specs.Blank.{AreTrailed, IsBlank};
 ghost use Rattle.kn_settle.specs.Reach.{most_reached};
 ghost use Rattle.kn_settle.specs.Counters.{IsCounting, IsUsed, most_ticks};

@@ -50,9 +50,7 @@ with_addition v text = record {
 
 -- one more removal
 abbrev pub with_removal : LiveView → ℕ → LiveView
-with_removal v id = record {
+with_removal v id = record v {
   credentials = filter (λ c. not (c.id == id)) v.credentials;
   changes = v.changes + 1;
-  logged = v.logged;
-  added = v.added;
 }

@@ -102,21 +102,21 @@ impl Book {
         Ok(Prepared { version, id })
     }
 
-    /// Adds texts, each by an update of its own, or none of them where one is refused: then its place is told, counted
+    /// Adds texts, each by an update of its own, or none of them where one is refused: then its place is given, counted
     /// from 0. It takes all memory that it needs before it changes anything.
     ///
     /// A refusal is that behind the texts in front of the refused one, so a limit's number counts them too. When
     /// out of memory, the place tells nothing.
-    pub fn add_all(&mut self, caller: u32, readies: Vec<Ready>) -> Result<(), (u32, StoreFault)>
-        ensures log { OnOk result (self.new ≡ self.old ++ additions_behind self.old caller readies.items) }
-        ensures follow { OnOk result (UpdatesFollow self.old (additions_behind self.old caller readies.items)) }
-        ensures refused { IfErr result (λ refused. RefusesTexts self.old caller readies.items refused) }
+    pub fn add_all(&mut self, caller: u32, ready_texts: Vec<Ready>) -> Result<(), (u32, StoreFault)>
+        ensures log { OnOk result (self.new ≡ self.old ++ additions_behind self.old caller ready_texts.items) }
+        ensures follow { OnOk result (UpdatesFollow self.old (additions_behind self.old caller ready_texts.items)) }
+        ensures refused { IfErr result (λ refused. RefusesTexts self.old caller ready_texts.items refused) }
         ensures kept { OnErr result (self.new ≡ self.old) }
     {
-        let Ok((newest, earlier)) = self.begin_additions(readies.len()) else {
+        let Ok((newest, earlier)) = self.begin_additions(ready_texts.len()) else {
             return Err((0, StoreFault::NoMemory));
         };
-        let (version, earlier) = newest.with_additions(self.alloc, caller, readies, earlier)?;
+        let (version, earlier) = newest.with_additions(self.alloc, caller, ready_texts, earlier)?;
         let Ok(newest) = version.into_snapshot(self.alloc) else {
             return Err((0, StoreFault::NoMemory));
         };
@@ -188,6 +188,7 @@ impl Book {
         ensures version { arc_value result.now ≡ self.now }
         ensures valid { is_valid_history self.now ≡ true }
     {
+        // The contract of `number` says that the history is valid.
         let _ = self.newest.number();
         &self.newest
     }

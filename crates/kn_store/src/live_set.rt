@@ -142,7 +142,7 @@ impl LiveSet {
         })
     }
 
-    /// Makes the change of an item, and gives it. Where it is refused, what is left isn't told.
+    /// Makes the change of an item, and gives it. Where it is refused, what is left isn't said.
     #[inline(always)]
     pub(crate) fn enter(&mut self, alloc: Global, item: Item) -> Result<Numbered, StoreFault>
         ensures set { OnOk result (self.new ≡ after_item self.old item) }
@@ -197,7 +197,7 @@ impl LiveSet {
         Ok(())
     }
 
-    /// Takes the one of this id out. Where it is refused, what is left isn't told.
+    /// Takes the one of this id out. Where it is refused, what is left isn't said.
     fn remove(&mut self, alloc: Global, id: u32) -> Result<(), StoreFault>
         ensures ok { OnOk result (self.new ≡ with_removal self.old id) }
         ensures accepted { OnOk result (refusal_of_removal self.old id ≡ None) }

@@ -78,6 +78,7 @@ impl Version {
         ensures limit { result ≤ UPDATES }
         ensures valid { is_valid_history self.now ≡ true }
     {
+        // The contract of `changes` says that there are 65,536 at most. Each update has one, so it bounds them too.
         let _ = self.live.changes();
         self.number
     }
@@ -209,20 +210,20 @@ impl Version {
         self,
         alloc: Global,
         caller: u32,
-        readies: Vec<Ready>,
+        ready_texts: Vec<Ready>,
         earlier: Earlier,
     ) -> Result<(Version, Earlier), (u32, StoreFault)>
-        requires earlier { AreLeft (length readies.items) self earlier }
-        ensures version { IfOk result (λ next. next.0 ≡ self ++ additions_behind self caller readies.items) }
+        requires earlier { AreLeft (length ready_texts.items) self earlier }
+        ensures version { IfOk result (λ next. next.0 ≡ self ++ additions_behind self caller ready_texts.items) }
         ensures earlier { IfOk result (λ next. AreEarlier next.0 next.1) }
-        ensures follow { OnOk result (UpdatesFollow self (additions_behind self caller readies.items)) }
-        ensures refused { IfErr result (λ refused. RefusesTexts self caller readies.items refused) }
+        ensures follow { OnOk result (UpdatesFollow self (additions_behind self caller ready_texts.items)) }
+        ensures refused { IfErr result (λ refused. RefusesTexts self caller ready_texts.items refused) }
     {
         let before = self.number();
-        let mut left = readies.len();
+        let mut left = ready_texts.len();
         let mut next = self;
         let mut earlier = earlier;
-        for ready in readies {
+        for ready in ready_texts {
             let place = next.number() - before;
             if let Some(fault) = next.refusal_of_size(ready.text().len()) {
                 return Err((place, fault));

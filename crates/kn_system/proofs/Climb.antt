@@ -8,7 +8,7 @@ use Rattle.kn_system.specs.declared.rows.Piece.{Piece}
 use Rattle.kn_system.specs.declared.rows.Piece.TheVariants.{Who, Gate}
 use Rattle.kn_system.specs.Form.{form_levels}
 use Rattle.kn_system.specs.Order.{Carries}
-use Rattle.kn_system.proofs.Reached.{threshold-carried, threshold-le}
+use Rattle.kn_system.proofs.Thresholds.{threshold-carried, threshold-le}
 
 pub Carries-cons : (u x y : ℕ) (xs ys : List ℕ) → (u ≤ x → u ≤ y) → Carries u xs ys → (i : ℕ)
     → u ≤ slice_index (x ∷ xs) i → u ≤ slice_index (y ∷ ys) i

@@ -8,8 +8,8 @@ use Rattle.kn_system.specs.Least.{worth, at_first, least_levels}
 use Rattle.kn_system.specs.Lawful.{IsGranted}
 use Rattle.kn_system.specs.Proofs.{IsProof}
 use Rattle.kn_system.specs.Settled.{IsSettled, IsGrant, HasNoneBefore, unsettled}
-use Rattle.kn_system.proofs.Proven.{proof-determines}
-use Rattle.kn_system.proofs.Granted.{starts, grants, goes_down, ends}
+use Rattle.kn_system.proofs.ProofsDetermine.{proof-determines}
+use Rattle.kn_system.proofs.SettlingByLevels.{starts, grants, goes_down, ends}
 
 -- levels and rows at which all above v is settled
 record Reached (s : SystemEquations) (v : ℕ) : Type 0 where

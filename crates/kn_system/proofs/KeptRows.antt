@@ -7,14 +7,14 @@ use Rattle.std.proofs.lemmas.List.{drop-append-le, map_push}
 use Rattle.std.proofs.Math.Seq.{drop-append_seam}
 use Rattle.std.proofs.lemmas.Bool.{cases_lt}
 use Rattle.std.proofs.lemmas.List.Elements.{All-head, All-tail}
-use Rattle.kn_system.specs.declared.links.Up.{Up}
-use Rattle.kn_system.specs.declared.links.Up.TheVariants.{Node, Row}
+use Rattle.kn_system.specs.declared.nodes.Up.{Up}
+use Rattle.kn_system.specs.declared.nodes.Up.TheVariants.{Node, Row}
 use Rattle.kn_system.specs.declared.rows.Piece.{Piece}
 use Rattle.kn_system.specs.declared.rows.Piece.TheVariants.{Who, Gate}
 use Rattle.kn_system.specs.declared.rows.StoredRow.{StoredRow}
 use Rattle.kn_system.specs.Equations.{IsSystemRow, node_total, row_at}
 use Rattle.kn_system.specs.Forms.{AreForms}
-use Rattle.kn_system.specs.Kept.{AreEndToEnd, AreKept, kept_row, kept_rows}
+use Rattle.kn_system.specs.KeptRows.{AreEndToEnd, AreKept, kept_row, kept_rows}
 use Rattle.kn_system.specs.Nodes.{FlatNodes, pieces_of, row_ups, ups_of, ups_of_rows}
 use Rattle.kn_system.specs.Rows.{SystemRow}
 

@@ -8,7 +8,7 @@ use Rattle.kn_system.specs.Equations.{SystemEquations, IsSystem}
 use Rattle.kn_system.specs.Least.{round, rounds, at_first, least_levels}
 use Rattle.kn_system.specs.Order.{Below}
 use Rattle.kn_system.specs.Lawful.{IsLeast, KeepsLevels}
-use Rattle.kn_system.proofs.Turned.{round-below, round-le, at_first-le, at_first-below, length-round}
+use Rattle.kn_system.proofs.Rounds.{round-below, round-le, at_first-le, at_first-below, length-round}
 
 -- the sum of levels
 abbrev pub total : List ℕ → ℕ

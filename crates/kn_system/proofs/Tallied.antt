@@ -5,7 +5,7 @@ use Rattle.std.proofs.lemmas.Bool.Decides.{nat_tests}
 use Rattle.std.proofs.lemmas.List.Elements.{All-head, All-tail}
 use Rattle.kn_base.specs.Threshold.{reaching, threshold}
 use Rattle.kn_system.specs.Forms.{often, AreTallied}
-use Rattle.kn_system.proofs.Reached.{threshold-ge, threshold-reached, threshold-le}
+use Rattle.kn_system.proofs.Thresholds.{threshold-ge, threshold-reached, threshold-le}
 
 -- none reaches a level above the top
 pub reaching-none : (top : ℕ) (xs : List ℕ) → All (λ level. level ≤ top) xs → reaching (top + 1) xs ≡ 0

@@ -4,7 +4,7 @@ pub mod Counts
 pub mod Equations
 pub mod Form
 pub mod Forms
-pub mod Kept
+pub mod KeptRows
 pub mod Least
 pub mod Nodes
 pub mod Order

@@ -1,10 +1,10 @@
 -- The nodes of a system's formulas in one list, what each is a part of, and where each principal stands (keynoted's
 -- own).
 use Rattle.std.specs.Prelude.{ℕ, zero, suc, ◌≡◌, ◌==◌, List, [], ◌∷◌, ◌++◌, length, replicate, if◌then◌else◌}
-use Rattle.kn_system.specs.declared.links.NodeSort.{NodeSort}
-use Rattle.kn_system.specs.declared.links.NodeSort.TheVariants.{Leaf, Gate as GateNode}
-use Rattle.kn_system.specs.declared.links.Up.{Up}
-use Rattle.kn_system.specs.declared.links.Up.TheVariants.{Node, Row}
+use Rattle.kn_system.specs.declared.nodes.NodeSort.{NodeSort}
+use Rattle.kn_system.specs.declared.nodes.NodeSort.TheVariants.{Leaf, Gate as GateNode}
+use Rattle.kn_system.specs.declared.nodes.Up.{Up}
+use Rattle.kn_system.specs.declared.nodes.Up.TheVariants.{Node, Row}
 use Rattle.kn_system.specs.declared.rows.Piece.{Piece}
 use Rattle.kn_system.specs.declared.rows.Piece.TheVariants.{Who, Gate}
 use Rattle.kn_system.specs.declared.uses.Block.{Block}

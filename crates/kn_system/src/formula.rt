@@ -7,6 +7,7 @@ ghost use Rattle.kn_system.specs.Forms.{AreSpelt, AreTallied};
 use crate::rows::Piece;
 use kn_base::Steps;
 
+/// How many pieces are principals, each counted as often as it stands there.
 pub fn leaf_count(pieces: &[Piece]) -> u32
     requires { length pieces.now < 2 ^ 32 }
     ensures exact { result ≡ leaf_count_of pieces.now }
@@ -21,6 +22,7 @@ pub fn leaf_count(pieces: &[Piece]) -> u32
     leaves
 }
 
+// A count of 0 for each level: there are 64 at most (`MOST_COMPLIANCE_VALUES`).
 fn empty_tally() -> [u32; 64]
     ensures none { AreTallied result [] }
     ensures size { length result ≡ 64 }
@@ -47,7 +49,7 @@ fn threshold_of(tally: &[u32; 64], need: u32, top: u8) -> u8
     0
 }
 
-// The level of the formula that begins at a place, and the place behind it. One tick for each of its nodes.
+/// The level of the formula that begins at a place, and the place behind it. One tick for each of its nodes.
 pub fn level_at<L>(
     pieces: &[Piece],
     at: usize,

@@ -99,7 +99,7 @@ impl Uses {
 }
 
 // Makes empty blocks up to the place.
-#[tactic(auto, using(crate::proofs::Placed::block_more))]
+#[tactic(auto, using(crate::proofs::BlockLists::block_more))]
 fn widen(blocks: &mut Vec<Block>, place: usize) -> Result<(), NoMemory>
     ensures same { (p : ℕ) → block_at blocks.new.items p ≡ block_at blocks.old.items p }
     ensures there { OnOk result (place < length blocks.new.items) }

@@ -8,16 +8,16 @@ use Rattle.std.proofs.lemmas.Slice.Eq.{bytes_eq-Decides}
 use Rattle.std.specs.Option.{option_or}
 use Rattle.kn_history.specs.declared.update.Update.{Update}
 use Rattle.kn_wire.specs.declared.fault.WireFault.{WireFault}
-use Rattle.kn_wire.specs.Digits.{bytes_of_digits, digit_value}
+use Rattle.kn_wire.specs.Hex.{bytes_of_hex, digit_value}
 use Rattle.kn_reply.specs.declared.refusal.Refusal.{Refusal}
 use Rattle.kn_reply.specs.declared.refusal.Refusal.TheVariants as R
 use Rattle.kn_reply.specs.Replies.{Reply, Done, No, NoMemory, reply_text}
 use Rattle.kn_daemon.specs.Shapes.{Shape, Controls, ShowSecret, Leave, AtFault}
-use Rattle.kn_daemon.specs.Daemon.{Grounds, State, refuse_if, is_secret, refusal_of_fault}
+use Rattle.kn_daemon.specs.Daemon.{DaemonConfig, State, refuse_if, is_secret, refusal_of_fault}
 use Rattle.kn_transcript.specs.Followed.{IsPermitted, history_behind}
 use Rattle.kn_transcript.specs.Judging.{IsBehind, IsTaken, Judges}
-use Rattle.kn_transcript.proofs.Permitted.{permits_cases, own_permitted}
-use Rattle.kn_transcript.proofs.Judged.{refused_ok, done_ok, taken_by}
+use Rattle.kn_transcript.proofs.ConfigChoices.{permits_cases, own_permitted}
+use Rattle.kn_transcript.proofs.DueReplies.{refused_ok, done_ok, taken_by}
 
 module _ (past : List Update) (left : List ℕ) {X E : Type 0} (result : Result X E) (view : X
     → Option (List ℕ)) (now : State) where
@@ -40,8 +40,8 @@ abbrev shown : List ℕ → Shape
 shown bytes = Controls (ShowSecret bytes)
 
 -- it is right where the daemon was started with it
-abbrev right_grounds : List ℕ → Grounds
-right_grounds bytes = record { secret = bytes; verdict = λ text a. 0 }
+abbrev right_config : List ℕ → DaemonConfig
+right_config bytes = record { secret = bytes; verdict = λ text a. 0 }
 
 positive : (n : ℕ) → nat_lt 0 (suc n) ≡ true
 positive n = grind (arith, nat_tests)
@@ -61,7 +61,7 @@ right_secret byte bytes = let same : bytes_eq (byte ∷ bytes) (byte ∷ bytes) 
 right_permitted : (past : List Update) (old : State) (bytes : List ℕ) → is_secret bytes bytes ≡ true
     → IsPermitted past old (shown bytes) Done (record old { is_admin = true })
 right_permitted past old bytes right = record {
-  grounds = right_grounds bytes;
+  grounds = right_config bytes;
   faults = λ text assertion. omega arith;
   permitted = record {
     accepted = ap (λ (b : Bool). refuse_if (not b) R.Admin None) right;
@@ -71,12 +71,12 @@ right_permitted past old bytes right = record {
 }
 
 -- two digits or more are a byte at least
-some_bytes : (digits : List ℕ) → 2 ≤ length digits → is_secret (bytes_of_digits digits) (bytes_of_digits digits) ≡ true
+some_bytes : (digits : List ℕ) → 2 ≤ length digits → is_secret (bytes_of_hex digits) (bytes_of_hex digits) ≡ true
 some_bytes [] many = absurd (omega arith)
 some_bytes (digit ∷ []) many = absurd (omega arith)
-some_bytes (high ∷ low ∷ digits) many = right_secret (digit_value high * 16 + digit_value low) (bytes_of_digits digits)
+some_bytes (high ∷ low ∷ digits) many = right_secret (digit_value high * 16 + digit_value low) (bytes_of_hex digits)
 
-pub no_bytes : (digits : List ℕ) → length digits < 2 → bytes_of_digits digits ≡ []
+pub no_bytes : (digits : List ℕ) → length digits < 2 → bytes_of_hex digits ≡ []
 no_bytes [] few = refl
 no_bytes (digit ∷ []) few = refl
 no_bytes (high ∷ low ∷ digits) few = absurd (omega arith)
@@ -88,10 +88,10 @@ never_secret (byte ∷ secret) = neither (nat_lt 0 (length (byte ∷ secret)))
 
 pub secret_taken : (past : List Update) (old : State) (digits left rest : List ℕ) → 2 ≤ length digits
     → left ≡ reply_text Done ++ rest
-    → Judges past old (shown (bytes_of_digits digits)) left past (record old { is_admin = true }) (Some rest)
+    → Judges past old (shown (bytes_of_hex digits)) left past (record old { is_admin = true }) (Some rest)
 secret_taken past old digits left rest many cut =
-    taken_by past old (shown (bytes_of_digits digits)) left past (record old { is_admin = true }) Done rest tt
-    (right_permitted past old (bytes_of_digits digits) (some_bytes digits many)) refl cut
+    taken_by past old (shown (bytes_of_hex digits)) left past (record old { is_admin = true }) Done rest tt
+    (right_permitted past old (bytes_of_hex digits) (some_bytes digits many)) refl cut
 
 module _ (past : List Update) (old : State) (bytes left : List ℕ) where
   -- ADMIN is accepted only by OK
@@ -107,10 +107,10 @@ module _ (past : List Update) (old : State) (bytes left : List ℕ) where
           λ none. filled g (ap (λ (x : List ℕ). refuse_if (not (is_secret g.secret x)) R.Admin None) (sym none)
               ∙ does.accepted),
         )
-        | inl r ↦ inl (r.told ∙ ap (λ (x : Refusal). No x) (sym (by (is_secret g.secret bytes) r.refusal r.first)))
+        | inl r ↦ inl (r.exact ∙ ap (λ (x : Refusal). No x) (sym (by (is_secret g.secret bytes) r.refusal r.first)))
       ]
     where
-      filled : (g : Grounds) → refuse_if (not (is_secret g.secret [])) R.Admin None ≡ None → ⊥
+      filled : (g : DaemonConfig) → refuse_if (not (is_secret g.secret [])) R.Admin None ≡ None → ⊥
       filled g e = let never = never_secret g.secret in
           absurd (let f = ap (λ (b : Bool). refuse_if (not b) R.Admin None) (sym never) ∙ e in cc f)
 

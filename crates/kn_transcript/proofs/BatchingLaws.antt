@@ -21,7 +21,8 @@ use Rattle.kn_reply.specs.declared.refusal.ItemRefusal.TheVariants as I
 use Rattle.kn_reply.specs.Logs.{item_of}
 use Rattle.kn_reply.specs.Replies.{Batched, No, reply_text}
 use Rattle.kn_daemon.specs.Shapes.{Shape, ApplyBlock, Updates}
-use Rattle.kn_daemon.specs.Daemon.{Grounds, State, own_refusal, placed_refusal, refusal_of_update, refusal_of_block}
+use Rattle.kn_daemon.specs.Daemon.{DaemonConfig, State, own_refusal, placed_refusal, refusal_of_update}
+use Rattle.kn_daemon.specs.Daemon.{refusal_of_block}
 use Rattle.kn_daemon.specs.Daemon.{refusal_of_batch, refusal_of_item_fault, refusal_from, refuse_if}
 use Rattle.kn_daemon.specs.Linearized.{read_items}
 use Rattle.kn_refusals.specs.Refusals.{refusal_of_batch_text, refusal_of_batch_fault}
@@ -29,8 +30,8 @@ use Rattle.kn_transcript.specs.declared.items.ReadItems.{ReadItems}
 use Rattle.kn_transcript.specs.Followed.{with_update, history_behind}
 use Rattle.kn_transcript.specs.Judging.{IsBehind, Judges}
 use Rattle.kn_transcript.specs.Verdicts.{IsBehindVerdicts, AreRead}
-use Rattle.kn_transcript.proofs.Permitted.{grounds_at}
-use Rattle.kn_transcript.proofs.Judged.{taken_by, refused_ok, told_by}
+use Rattle.kn_transcript.proofs.ConfigChoices.{config_at}
+use Rattle.kn_transcript.proofs.DueReplies.{taken_by, refused_ok, told_by}
 use Rattle.kn_transcript.proofs.CommittedLaws.{items_follow, batch_reply, batched_only}
 use Rattle.kn_transcript.proofs.VerdictLaws.{NoneStands, RefusesOr, update_refused, update_placed, update_made}
 use Rattle.kn_transcript.proofs.ItemLaws.{IsVerdictAt, unread_refusal, batch_refusals, silent_refusal, may_refuse}
@@ -46,7 +47,7 @@ all_asked parts items r =
     r.asked ∙ ap (map item_of) (sym whole)
 
 module _ (past : List Update) (old : State) (block left : List ℕ) (admin : old.is_admin ≡ true) where
-  shown : (g : Grounds) (o : Option Refusal) → refusal_of_update g (ApplyBlock block) ≡ o
+  shown : (g : DaemonConfig) (o : Option Refusal) → refusal_of_update g (ApplyBlock block) ≡ o
       → own_refusal g old (batches block) ≡ o
   shown g o is = ap (λ (b : Bool). refuse_if (not b) R.Admin (refusal_of_update g (ApplyBlock block))) admin ∙ is
 
@@ -61,14 +62,15 @@ module _ (past : List Update) (old : State) (block left : List ℕ) (admin : old
       (λ due r some there. refused_ok past old (batches block) left view due
       (λ g. shown g (Some due) (refuses g due fault why (sym is ∙ some))) r there)
     where
-      refuses : (g : Grounds) (due : Refusal) (f : BatchText) → HasFault block f → refusal_of_batch_text f ≡ Some due
+      refuses : (g : DaemonConfig) (due : Refusal) (f : BatchText) → HasFault block f
+          → refusal_of_batch_text f ≡ Some due
           → refusal_of_update g (ApplyBlock block) ≡ Some due
       refuses g due (T.Form item) e is = ap (λ (r : Result (List BatchItem) ℕ). refusal_of_block g r) e ∙ is
       refuses g due T.NoMemory e is = absurd (cc is)
 
   module _ (items : List BatchItem) (reads : items_of block ≡ Ok items) (read : ReadItems) (r : AreRead items read)
     where
-      of_items : (g : Grounds) (o : Option Refusal) → refusal_from g 1 items ≡ o
+      of_items : (g : DaemonConfig) (o : Option Refusal) → refusal_from g 1 items ≡ o
           → refusal_of_update g (ApplyBlock block) ≡ o
       of_items g o is = ap (λ (x : Result (List BatchItem) ℕ). refusal_of_block g x) reads ∙ is
 
@@ -98,9 +100,9 @@ module _ (past : List Update) (old : State) (block left : List ℕ) (admin : old
             permitted = (ap (λ (o : Option Refusal). option_or o (placed_refusal past (batches block))) own, refl);
           }) refl cut
 
-      zero : refusal_of_update (grounds_at 0) (ApplyBlock block) ≡ unread_refusal (length read.items) read.refusal
-      zero = of_items (grounds_at 0) (unread_refusal (length read.items) read.refusal)
-          (silent_refusal items read r (grounds_at 0) (λ text a. refl))
+      zero : refusal_of_update (config_at 0) (ApplyBlock block) ≡ unread_refusal (length read.items) read.refusal
+      zero = of_items (config_at 0) (unread_refusal (length read.items) read.refusal)
+          (silent_refusal items read r (config_at 0) (λ text a. refl))
 
       module _ (none : NoneStands past old (batches block) left IsItemVerdict) where
         may : RefusesOr past old (ApplyBlock block) left IsItemVerdict admin none
@@ -184,7 +186,7 @@ module _ (past : List Update) (old : State) (block left : List ℕ) (admin : old
                   (Batched first added version)
                   tt refl (zero ∙ silent) may_none (placed_by None unrefused)
                   (here ∙ ap (λ (n : ℕ). past ++ batch_by 0 n (map item_of items) ∷ []) (sym number) ∙ sym named)
-                  (items, reads, record { before = past; ends = here; accepted = accepted; told = told })
+                  (items, reads, record { before = past; ends = here; accepted = accepted; exact = told })
                   (λ reply is. (batched_only past block items reads reply is).0 ∙ sym due) behind
 
               -- the history refuses an item

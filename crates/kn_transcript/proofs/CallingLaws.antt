@@ -13,17 +13,16 @@ use Rattle.kn_reply.specs.declared.refusal.Refusal.{Refusal}
 use Rattle.kn_reply.specs.Replies.{Reply, No, reply_text}
 use Rattle.kn_reply_reader.specs.Texts.{HasText}
 use Rattle.kn_daemon.specs.Shapes.{Calls}
-use Rattle.kn_daemon.specs.Daemon.{Grounds, State, session_of, own_refusal, refusal_of_call, reply_of_call}
+use Rattle.kn_daemon.specs.Daemon.{DaemonConfig, State, session_of, own_refusal, refusal_of_call, reply_of_call}
 use Rattle.kn_daemon.proofs.Faults.{lacking-untold}
 use Rattle.kn_transcript.specs.Followed.{history_behind}
 use Rattle.kn_transcript.specs.Judging.{HasRoom, IsBehind, Judges}
-use Rattle.kn_transcript.proofs.Permitted.{is_acceptance}
-use Rattle.kn_transcript.proofs.Judged.{refused_ok, done_ok, told_by}
+use Rattle.kn_transcript.proofs.ConfigChoices.{is_acceptance}
+use Rattle.kn_transcript.proofs.DueReplies.{refused_ok, done_ok, told_by}
 
 -- a connection with these sessions
 abbrev pub state_with : OpenSessions → Bool → State
-state_with sessions is_admin =
-    record { started = sessions.started; sessions = sessions.sessions; is_admin = is_admin }
+state_with sessions is_admin = record { started = sessions.started; sessions = sessions.sessions; is_admin = is_admin }
 
 -- a session that isn't open
 pub none_found : (s : ℕ) (found : Option Session) (fault : SessionFault)
@@ -84,7 +83,7 @@ module _ (past : List Update) (a b : OpenSessions) (is_admin : Bool) (s : ℕ) (
       (λ g reply other does. answer_found (session_in a.sessions s) k.session reply call k.found does.answered
       ∙ ap reply_of_call (sym k.gives)) result behind
     where
-      accepted : (g : Grounds) → own_refusal g (state_with a is_admin) (Calls s call) ≡ None
+      accepted : (g : DaemonConfig) → own_refusal g (state_with a is_admin) (Calls s call) ≡ None
       accepted g =
           ap (λ (x : Option Session). option_and_then refusal_of_call (call_fault_in s x call)) k.found
           ∙ ap (λ (f : Option CallFault). option_and_then refusal_of_call f) k.no_fault

@@ -36,8 +36,7 @@ one_follows past caller c follows =
     let made : all_may_follow past (c ∷ []) ≡ true =
     (and_parts (nat_le 1 (length (c ∷ [])) && nat_le (length (c ∷ [])) CHANGES) (all_may_follow past (c ∷ []))
     follows).1 in
-    let here : may_follow past c ≡ true =
-    (and_parts (may_follow past c) (all_may_follow (past ++ c ∷ []) []) made).0 in
+    let here : may_follow past c ≡ true = (and_parts (may_follow past c) (all_may_follow (past ++ c ∷ []) []) made).0 in
     let parts = and_parts (is_none (refusal_of past c.change c.id)) (is_well_numbered past c.change c.id) here in
     (none_is (refusal_of past c.change c.id) parts.0, parts.1)
 
@@ -118,7 +117,7 @@ module _ (past : List Update) where
         let asked = map item_of items in
         let u = batch_by 0 (next_id b.before) asked in
         let here : made ≡ past ++ u ∷ [] =
-        ap (λ (r : Reply). history_behind past (Updates (ApplyBlock block)) r) b.told
+        ap (λ (r : Reply). history_behind past (Updates (ApplyBlock block)) r) b.exact
         ∙ ap (λ (r : Result (List BatchItem) ℕ).
         with_update past (option_map (λ (all : List Item). batch_by 0 (next_id b.before) all) (read_items r))) reads in
         let front : past ≡ b.before = (same_from_push past b.before u u (sym here ∙ b.ends)).0 in
@@ -126,7 +125,7 @@ module _ (past : List Update) where
         let follows : update_may_follow (all_changes past) (batch_by 0 (next_id past) asked) ≡ true =
         subst (λ (h : List Update). update_may_follow (all_changes h) (batch_by 0 (next_id h) asked) ≡ true) (sym front)
         b.accepted in (
-          b.told ∙ ap (λ (n : ℕ). Batched (next_id b.before) (additions (numbered_from (next_id b.before) asked)) n)
+          b.exact ∙ ap (λ (n : ℕ). Batched (next_id b.before) (additions (numbered_from (next_id b.before) asked)) n)
               size
               ∙ ap (λ (h : List Update). Batched (next_id h) (additions (numbered_from (next_id h) asked))
               (length past + 1))

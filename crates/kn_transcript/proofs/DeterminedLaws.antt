@@ -9,12 +9,12 @@ use Rattle.kn_reply.specs.Replies.{Reply, Done, Started, Number, PrivateAdded, A
 use Rattle.kn_reply.specs.Replies.{News, Critical, No, NoMemory, reply_text}
 use Rattle.kn_daemon.specs.Shapes.{Shape, Calls, Updates, Looks, Asks, Controls, AtFault, AddText, DropId, ApplyBlock}
 use Rattle.kn_daemon.specs.Shapes.{Updating}
-use Rattle.kn_daemon.specs.Daemon.{Grounds, State, Permits, Does, Answers, changed}
+use Rattle.kn_daemon.specs.Daemon.{DaemonConfig, State, Permits, Does, Answers, state_after}
 use Rattle.kn_daemon.specs.Linearized.{updating, update_by, added_text, dropped_id, applied_items}
 use Rattle.kn_transcript.specs.Followed.{IsPermitted, with_update, history_behind}
 use Rattle.kn_transcript.specs.Accepted.{is_value}
 use Rattle.kn_transcript.specs.Progress.{begins_with_value}
-use Rattle.kn_transcript.proofs.Permitted.{is_acceptance}
+use Rattle.kn_transcript.proofs.ConfigChoices.{is_acceptance}
 use Rattle.kn_transcript.proofs.CommittedLaws.{added_only, removed_only, batched_only}
 use Rattle.kn_transcript.proofs.RequestLaws.{value_told}
 
@@ -45,7 +45,7 @@ not_same true false e = absurd (cc e)
 not_same false true e = absurd (cc e)
 not_same false false e = refl
 
-module _ (g : Grounds) (past made : List Update) (old : State) (shape : Shape) where
+module _ (g : DaemonConfig) (past made : List Update) (old : State) (shape : Shape) where
   -- where it wasn't, nothing has changed
   kept_by : (reply : Reply) (new : State) → is_acceptance reply ≡ false → Permits g 0 made old shape reply new
       → (new ≡ old) × (history_behind past shape reply ≡ past)
@@ -127,8 +127,7 @@ module _ (past : List Update) (old : State) (shape : Shape) (a b : Reply) (new o
     (p : IsPermitted past old shape a new) (q : IsPermitted past old shape b other) (same : reply_text a ≡ reply_text b)
   where
     pub one_value : is_value a ≡ is_value b
-    one_value =
-        sym (value_told a []) ∙ ap (λ (l : List ℕ). begins_with_value (l ++ [])) same ∙ value_told b []
+    one_value = sym (value_told a []) ∙ ap (λ (l : List ℕ). begins_with_value (l ++ [])) same ∙ value_told b []
 
     -- two permitted replies of one text have made the same of both
     pub one_outcome : (history_behind past shape a ≡ history_behind past shape b) × (new ≡ other)
@@ -144,7 +143,7 @@ module _ (past : List Update) (old : State) (shape : Shape) (a b : Reply) (new o
             let e = done_by q.grounds past (history_behind past shape b) old shape b other (sym alike
             ∙ is) q.permitted in
             let history = one_history past old shape a b d.answered e.answered in
-            (history, d.next ∙ ap (λ (h : List Update). changed h old shape) history ∙ sym e.next)
+            (history, d.next ∙ ap (λ (h : List Update). state_after h old shape) history ∙ sym e.next)
         by false is =
             let k = kept_by p.grounds past (history_behind past shape a) old shape a new is p.permitted in
             let l = kept_by q.grounds past (history_behind past shape b) old shape b other (sym alike

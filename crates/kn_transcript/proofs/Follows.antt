@@ -17,7 +17,7 @@ use Rattle.kn_daemon.specs.Shapes.{Shape, Calls, Updates, Looks, Asks, Controls,
 use Rattle.kn_daemon.specs.Shapes.{ForNew, ForOpen, ForRetained, ForStanding, ForLog, WithProof, WithCritical, ToKeep}
 use Rattle.kn_daemon.specs.Shapes.{shape_of}
 use Rattle.kn_env.specs.Values.{values_of}
-use Rattle.kn_daemon.specs.Daemon.{Grounds, State, Permits, Answers, session_of, equations_of, reply_of_call}
+use Rattle.kn_daemon.specs.Daemon.{DaemonConfig, State, Permits, Answers, session_of, equations_of, reply_of_call}
 use Rattle.kn_daemon.specs.Linearized.{Exchange, update_by}
 use Rattle.kn_daemon.specs.Alone.{RunsAlone}
 use Rattle.kn_transcript.specs.declared.fault.TheConstants.{AUTH_FAULTS}
@@ -29,7 +29,7 @@ with_one : (past : List Update) (update : Option Update) → past ++ option_to_l
 with_one past None = append-nil past
 with_one past (Some update) = refl
 
-pub runs-are_followed : (g : Grounds) (past : List Update) (old : State) (exchanges : List Exchange)
+pub runs-are_followed : (g : DaemonConfig) (past : List Update) (old : State) (exchanges : List Exchange)
     (history : List Update) (new : State)
     → ((text : List ℕ) (assertion : Assertion) → g.verdict text assertion ≤ AUTH_FAULTS)
     → RunsAlone g 0 past old exchanges history new → Follows past old (map answered_of exchanges) history new
@@ -78,14 +78,14 @@ value_asked past state (Calls s call) index name version rows is =
     absurd (no_value (session_of state s) call index name version rows is)
 value_asked past state (Updates (AddText text)) index name version rows is = absurd (let e = is.2 in cc e)
 value_asked past state (Updates (DropId k)) index name version rows is = absurd (let e = is.1 in cc e)
-value_asked past state (Updates (ApplyBlock block)) index name version rows is = absurd (let e = is.2.told in cc e)
+value_asked past state (Updates (ApplyBlock block)) index name version rows is = absurd (let e = is.2.exact in cc e)
 value_asked past state (Looks ForNew) index name version rows is = absurd (cc is)
 value_asked past state (Looks (ForOpen s)) index name version rows is = absurd (cc is)
 value_asked past state (Looks (ForRetained s v)) index name version rows is = absurd (let e = is.1 in cc e)
-value_asked past state (Looks (ForStanding s)) index name version rows is = absurd (let e = is.news.told in cc e)
+value_asked past state (Looks (ForStanding s)) index name version rows is = absurd (let e = is.news.exact in cc e)
 value_asked past state (Looks (ForLog n)) index name version rows is = absurd (let e = is.1 in cc e)
 value_asked past state (Asks WithProof s names) index name version rows is =
-    let same : index ≡ is.answer.level = ap (λ r. index_of r 0) is.answer.told in
+    let same : index ≡ is.answer.level = ap (λ r. index_of r 0) is.answer.exact in
     record {
       s = s;
       names = names;
@@ -96,8 +96,8 @@ value_asked past state (Asks WithProof s names) index name version rows is =
       named = is.named;
       least = subst (λ (n : ℕ). IsPolicyLevel (equations_of is.session is.values) n) (sym same) is.answer.least;
     }
-value_asked past state (Asks WithCritical s names) index name version rows is = absurd (let e = is.answer.told in cc e)
-value_asked past state (Asks ToKeep s names) index name version rows is = absurd (let e = is.answer.told in cc e)
+value_asked past state (Asks WithCritical s names) index name version rows is = absurd (let e = is.answer.exact in cc e)
+value_asked past state (Asks ToKeep s names) index name version rows is = absurd (let e = is.answer.exact in cc e)
 value_asked past state (Controls control) index name version rows is = absurd (cc is)
 value_asked past state (AtFault fault) index name version rows is = absurd is
 

@@ -18,7 +18,7 @@ use Rattle.kn_reply.specs.declared.refusal.Refusal.TheVariants as R
 use Rattle.kn_reply.specs.declared.refusal.ItemRefusal.{ItemRefusal}
 use Rattle.kn_reply.specs.declared.refusal.ItemRefusal.TheVariants as I
 use Rattle.kn_reply.specs.Logs.{item_of}
-use Rattle.kn_daemon.specs.Daemon.{Grounds, item_refusal, found_item, refusal_from, refusal_at_verdict}
+use Rattle.kn_daemon.specs.Daemon.{DaemonConfig, item_refusal, found_item, refusal_from, refusal_at_verdict}
 use Rattle.kn_daemon.proofs.Reading.{reading-admits_item}
 use Rattle.kn_transcript.specs.declared.fault.TheConstants.{AUTH_FAULTS}
 use Rattle.kn_transcript.specs.declared.items.ReadItems.{ReadItems}
@@ -29,7 +29,7 @@ use Rattle.kn_transcript.proofs.VerdictLaws.{HasFaults}
 -- Items in their order.
 
 -- items behind those that are admitted are counted on
-pub behind_admitted : (g : Grounds) (number : ℕ) (front rest : List BatchItem) → refusal_from g number front ≡ None
+pub behind_admitted : (g : DaemonConfig) (number : ℕ) (front rest : List BatchItem) → refusal_from g number front ≡ None
     → refusal_from g number (front ++ rest) ≡ refusal_from g (number + length front) rest
 behind_admitted g number [] rest e =
     let none : number ≡ number + 0 = omega arith in
@@ -48,7 +48,7 @@ behind_admitted g number (item ∷ front) rest e =
     by (Some inner) e later = absurd (cc e)
 
 -- the first one that isn't admitted stays the first one
-found_in_front : (g : Grounds) (number : ℕ) (front rest : List BatchItem) (told : Refusal)
+found_in_front : (g : DaemonConfig) (number : ℕ) (front rest : List BatchItem) (told : Refusal)
     → refusal_from g number front ≡ Some told → refusal_from g number (front ++ rest) ≡ Some told
 found_in_front g number [] rest told e = absurd (cc e)
 found_in_front g number (item ∷ front) rest told e =
@@ -70,7 +70,7 @@ same_item text (AddText other) same = ap AddText (same_text text other same)
 same_item text (DropId k) same = absurd (cc same)
 
 -- a text that was admitted is admitted again
-repeated_admitted : (g : Grounds) (number : ℕ) (front : List BatchItem) (text : List ℕ)
+repeated_admitted : (g : DaemonConfig) (number : ℕ) (front : List BatchItem) (text : List ℕ)
     → refusal_from g number front ≡ None → list_any (adds_text text) front ≡ true → item_refusal g (AddText text) ≡ None
 repeated_admitted g number [] text e any = absurd (cc any)
 repeated_admitted g number (item ∷ front) text e any =
@@ -94,7 +94,7 @@ item_verdict n above =
     rw other refl
 
 -- what is said of a text that has a reading
-said : (g : Grounds) (text : List ℕ) → IsSome (assertion_of text)
+said : (g : DaemonConfig) (text : List ℕ) → IsSome (assertion_of text)
     → (a : Assertion) × (assertion_of text ≡ Some a)
     × (item_refusal g (AddText text) ≡ refusal_at_verdict I.Auth (g.verdict text a))
 said g text reads = by (assertion_of text) refl reads
@@ -106,7 +106,7 @@ said g text reads = by (assertion_of text) refl reads
     by (Some a) is some = (a, is, reading-admits_item g text a is)
 
 -- an item whose text has a reading is admitted where its text gets number 0
-zero_admits : (g : Grounds) (item : BatchItem) → HasReading item
+zero_admits : (g : DaemonConfig) (item : BatchItem) → HasReading item
     → ((text : List ℕ) (a : Assertion) → item ≡ AddText text → g.verdict text a ≡ 0) → item_refusal g item ≡ None
 zero_admits g (DropId k) reads none = refl
 zero_admits g (AddText text) reads none =
@@ -114,14 +114,14 @@ zero_admits g (AddText text) reads none =
     s.2 ∙ ap (refusal_at_verdict I.Auth) (none text s.0 refl)
 
 -- it is admitted, or refused by a fault of the authenticator
-record IsUnadmitted (g : Grounds) (item : BatchItem) : Type 0 where
+record IsUnadmitted (g : DaemonConfig) (item : BatchItem) : Type 0 where
   pub text : List ℕ
   pub fault : ℕ
   pub item_is : item ≡ AddText text
   pub is_fault : IsAuthFault fault
   pub refused : item_refusal g item ≡ Some (I.Auth fault)
 
-admitted_or : (g : Grounds) → HasFaults g → (item : BatchItem) → HasReading item
+admitted_or : (g : DaemonConfig) → HasFaults g → (item : BatchItem) → HasReading item
     → (item_refusal g item ≡ None) ⊎ IsUnadmitted g item
 admitted_or g few (DropId k) reads = inl refl
 admitted_or g few (AddText text) reads =
@@ -158,7 +158,7 @@ get_at [] x rest = refl
 get_at (y ∷ front) x rest = get_at front x rest
 
 -- the item behind those that are admitted adds a text that they don't add, if it isn't admitted
-new_text : (g : Grounds) (front rest : List BatchItem) (item : BatchItem) → refusal_from g 1 front ≡ None
+new_text : (g : DaemonConfig) (front rest : List BatchItem) (item : BatchItem) → refusal_from g 1 front ≡ None
     → IsUnadmitted g item → adds_anew (front ++ item ∷ rest) (length front) ≡ true
 new_text g front rest item before u =
     ap (λ (l : List BatchItem). is_new_behind l (slice_get (front ++ item ∷ rest) (length front)))
@@ -174,7 +174,7 @@ new_text g front rest item before u =
         absurd (cc (again, refused))
 
 -- all of them are admitted, or there is a first one that isn't
-first_verdict : (g : Grounds) → HasFaults g → (front items behind : List BatchItem) (count : ℕ)
+first_verdict : (g : DaemonConfig) → HasFaults g → (front items behind : List BatchItem) (count : ℕ)
     → refusal_from g 1 front ≡ None → AllByRecursion HasReading items → count ≡ length front + length items
     → ((told : Refusal) × IsVerdictAt (front ++ (items ++ behind)) count told
     × (refusal_from g (length front + 1) items ≡ Some told))
@@ -242,7 +242,7 @@ module _ (items : List BatchItem) (read : ReadItems) (r : AreRead items read) wh
   count_is = ap length r.asked ∙ length-map r.front item_of
 
   -- where those that are read are admitted, the first that isn't read is refused
-  behind_read : (g : Grounds) → refusal_from g 1 r.front ≡ None
+  behind_read : (g : DaemonConfig) → refusal_from g 1 r.front ≡ None
       → refusal_from g 1 items ≡ unread_refusal (length read.items) read.refusal
   behind_read g none =
       ap (refusal_from g 1) r.cut ∙ behind_admitted g 1 r.front r.behind none ∙ by read.refusal r.first
@@ -267,7 +267,7 @@ module _ (items : List BatchItem) (read : ReadItems) (r : AreRead items read) wh
       omega (arith, size, whole)
 
   -- what may refuse the batch
-  pub batch_refusals : (g : Grounds) → HasFaults g
+  pub batch_refusals : (g : DaemonConfig) → HasFaults g
       → ((told : Refusal) × IsVerdictAt items (length read.items) told × (refusal_from g 1 items ≡ Some told))
       ⊎ (refusal_from g 1 items ≡ unread_refusal (length read.items) read.refusal)
   batch_refusals g few =
@@ -281,7 +281,7 @@ module _ (items : List BatchItem) (read : ReadItems) (r : AreRead items read) wh
       ]
 
   -- and what does where the authenticator says nothing
-  pub silent_refusal : (g : Grounds) → ((text : List ℕ) (a : Assertion) → g.verdict text a ≡ 0)
+  pub silent_refusal : (g : DaemonConfig) → ((text : List ℕ) (a : Assertion) → g.verdict text a ≡ 0)
       → refusal_from g 1 items ≡ unread_refusal (length read.items) read.refusal
   silent_refusal g silent = behind_read g (admitted 1 r.front r.readings)
     where
@@ -294,7 +294,7 @@ module _ (items : List BatchItem) (read : ReadItems) (r : AreRead items read) wh
           ∙ admitted (number + 1) front reads.1
 
 -- An authenticator that refuses this text alone.
-abbrev pub refusing : List ℕ → ℕ → Grounds
+abbrev pub refusing : List ℕ → ℕ → DaemonConfig
 refusing text fault = record { secret = []; verdict = λ other a. if bytes_eq other text then fault else 0 }
 
 pub refusing_few : (text : List ℕ) (fault : ℕ) → fault ≤ AUTH_FAULTS → HasFaults (refusing text fault)
@@ -351,12 +351,12 @@ module _ (text : List ℕ) (fault : ℕ) (is_fault : IsAuthFault fault) where
 -- an authenticator may refuse an item whose text it hasn't admitted before
 pub may_refuse : (items : List BatchItem) (read : ReadItems) → AreRead items read → (place fault : ℕ)
     → place < length read.items → adds_anew items place ≡ true → IsAuthFault fault
-    → (g : Grounds) × HasFaults g × (refusal_from g 1 items ≡ Some (R.Item (place + 1) (I.Auth fault)))
+    → (g : DaemonConfig) × HasFaults g × (refusal_from g 1 items ≡ Some (R.Item (place + 1) (I.Auth fault)))
 may_refuse items read r place fault within anew is_fault = by (slice_get items place) refl anew
   where
     at : (text : List ℕ) → slice_get items place ≡ Some (AddText text)
         → list_any (adds_text text) (take place items) ≡ false
-        → (g : Grounds) × HasFaults g × (refusal_from g 1 items ≡ Some (R.Item (place + 1) (I.Auth fault)))
+        → (g : DaemonConfig) × HasFaults g × (refusal_from g 1 items ≡ Some (R.Item (place + 1) (I.Auth fault)))
     at text there new =
         let size = count_is items read r in
         let number : 1 + place ≡ place + 1 = omega arith in (
@@ -374,7 +374,7 @@ may_refuse items read r place fault within anew is_fault = by (slice_get items p
     is_false true e = absurd (cc e)
 
     by : (o : Option BatchItem) → slice_get items place ≡ o → is_new_behind (take place items) o ≡ true
-        → (g : Grounds) × HasFaults g × (refusal_from g 1 items ≡ Some (R.Item (place + 1) (I.Auth fault)))
+        → (g : DaemonConfig) × HasFaults g × (refusal_from g 1 items ≡ Some (R.Item (place + 1) (I.Auth fault)))
     by None is e = absurd (cc e)
     by (Some (DropId k)) is e = absurd (cc e)
     by (Some (AddText text)) is e = at text is (is_false (list_any (adds_text text) (take place items)) e)

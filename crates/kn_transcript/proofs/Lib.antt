@@ -1,6 +1,6 @@
 pub mod Follows
-pub mod Permitted
-pub mod Judged
+pub mod ConfigChoices
+pub mod DueReplies
 pub mod MatchingLaws
 pub mod CallingLaws
 pub mod AdmittingLaws
@@ -14,7 +14,7 @@ pub mod PlaceLaws
 pub mod BatchingLaws
 pub mod JudgingLaws
 pub mod AnsweredLaws
-pub mod MeantLaws
+pub mod ScriptRequestLaws
 pub mod RequestLaws
 pub mod ScriptLaws
 pub mod SmallLaws

@@ -17,7 +17,7 @@ use Rattle.kn_daemon.specs.Daemon.{State, session_of, refuse_if, refusal_by, pin
 use Rattle.kn_daemon.proofs.Updates.{no-update}
 use Rattle.kn_transcript.specs.Followed.{with_update, history_behind}
 use Rattle.kn_transcript.specs.Judging.{IsBehind, Judges}
-use Rattle.kn_transcript.proofs.Judged.{refused_ok, placed_ok, done_ok}
+use Rattle.kn_transcript.proofs.DueReplies.{refused_ok, placed_ok, done_ok}
 use Rattle.kn_transcript.proofs.CallingLaws.{state_with, none_found}
 
 -- a look at the history adds no update

@@ -17,7 +17,7 @@ use Rattle.kn_reply.specs.declared.refusal.ItemRefusal.{ItemRefusal}
 use Rattle.kn_reply.specs.declared.refusal.ItemRefusal.TheVariants as I
 use Rattle.kn_reply.specs.Logs.{item_of}
 use Rattle.kn_reply.specs.Replies.{No, reply_text}
-use Rattle.kn_daemon.specs.Daemon.{Grounds, item_refusal}
+use Rattle.kn_daemon.specs.Daemon.{DaemonConfig, item_refusal}
 use Rattle.kn_transcript.specs.declared.items.ReadItems.{ReadItems}
 use Rattle.kn_transcript.specs.Verdicts.{IsAuthFault, IsBehindVerdict, verdict_refusal, adds_text, is_new_behind}
 use Rattle.kn_transcript.specs.Verdicts.{adds_anew, HasReading, IsUnread, AreRead}
@@ -40,8 +40,7 @@ module _ (items : List ItemInCode) (i : ℕ) (d : ItemInCode) (within : i < leng
       ∙ ap not (any_map item_in_code (adds_text text) (take i items))
 
   pub anew_dropped : (k : ℕ) → item_in_code (get_or items i d) ≡ DropId k → adds_anew (map item_in_code items) i ≡ false
-  anew_dropped k is =
-      ap (is_new_behind (take i (map item_in_code items))) (there ∙ ap (λ (x : BatchItem). Some x) is)
+  anew_dropped k is = ap (is_new_behind (take i (map item_in_code items))) (there ∙ ap (λ (x : BatchItem). Some x) is)
 
   -- items that are read, and one more
   one_more : map item_in_code (take (i + 1) items) ≡ map item_in_code (take i items) ++ item_in_code (get_or items i d)
@@ -92,7 +91,7 @@ module _ (items : List ItemInCode) (i : ℕ) (d : ItemInCode) (within : i < leng
     first = (item_in_code (get_or items i d), map item_in_code (drop (i + 1) items), refl, by unread);
   }
     where
-      by : IsUnread (item_in_code (get_or items i d)) (Some inner) → (g : Grounds)
+      by : IsUnread (item_in_code (get_or items i d)) (Some inner) → (g : DaemonConfig)
           → item_refusal g (item_in_code (get_or items i d)) ≡ Some inner
       by (inl none) g = absurd (cc none)
       by (inr refused) g = refused g

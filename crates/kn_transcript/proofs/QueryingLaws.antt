@@ -17,7 +17,7 @@ use Rattle.kn_reply_reader.specs.declared.value_reply.ValueReply.{ValueReply}
 use Rattle.kn_reply_reader.specs.Texts.{HasText}
 use Rattle.kn_reply_reader.specs.ValueReplies.{IsValueAt}
 use Rattle.kn_daemon.specs.Shapes.{Asks, WithProof}
-use Rattle.kn_daemon.specs.Daemon.{Grounds, State, IsAnswered, IsAnswer, in_session, refusal_of_names}
+use Rattle.kn_daemon.specs.Daemon.{DaemonConfig, State, IsAnswered, IsAnswer, in_session, refusal_of_names}
 use Rattle.kn_daemon.specs.Daemon.{refusal_of_question}
 use Rattle.kn_daemon.specs.Daemon.{session_of, own_refusal}
 use Rattle.kn_daemon.proofs.Updates.{no-update}
@@ -25,8 +25,8 @@ use Rattle.kn_verify.proofs.Accepted.{answers_are_proved}
 use Rattle.kn_transcript.specs.Followed.{IsPermitted, with_update, history_behind}
 use Rattle.kn_transcript.specs.Judging.{IsBehind, Judges}
 use Rattle.kn_transcript.specs.ValueReplies.{JudgesValue, ProvesAnswer}
-use Rattle.kn_transcript.proofs.Permitted.{grounds_at, permits_cases, done_permitted}
-use Rattle.kn_transcript.proofs.Judged.{refused_ok, taken_by}
+use Rattle.kn_transcript.proofs.ConfigChoices.{config_at, permits_cases, done_permitted}
+use Rattle.kn_transcript.proofs.DueReplies.{refused_ok, taken_by}
 use Rattle.kn_transcript.proofs.CallingLaws.{none_found}
 
 -- the reply of these parts
@@ -63,8 +63,7 @@ stands_at left rest read is cut = record {
 pub found_there : (found : Option ValueReply) (value : ValueReply) (reply : ReadReply) (rest : List ℕ)
     → found ≡ Some value → IsSomeAnd found (λ v. (v.reply ≡ reply) × (v.rest.now ≡ rest)) → value.reply ≡ reply
 found_there None value reply rest e is = absurd (cc e)
-found_there (Some other) value reply rest e is =
-    ap (λ (v : ValueReply). v.reply) (sym (same_Some other value e)) ∙ is.0
+found_there (Some other) value reply rest e is = ap (λ (v : ValueReply). v.reply) (sym (same_Some other value e)) ∙ is.0
 
 -- where none was found none stands there
 pub none_there : (found : Option ValueReply) (reply : ReadReply) (rest : List ℕ) → found ≡ None
@@ -122,7 +121,7 @@ module _ (past : List Update) (now : State) (s : ℕ) (names left : List ℕ) {X
 
 module _ (past : List Update) (now : State) (s : ℕ) (names left : List ℕ) (session : Session) (values : List (List ℕ))
     (found : session_of now s ≡ Some session) (named : values_of names ≡ Some values) where
-  nothing_refuses : (g : Grounds) → own_refusal g now (Asks WithProof s names) ≡ None
+  nothing_refuses : (g : DaemonConfig) → own_refusal g now (Asks WithProof s names) ≡ None
   nothing_refuses g =
       ap (λ (o : Option Session). in_session o (λ x.
       refusal_of_names (values_of names) (refusal_of_question WithProof x))) found
@@ -139,7 +138,7 @@ module _ (past : List Update) (now : State) (s : ℕ) (names left : List ℕ) (s
     answer = record {
       level = read.value;
       rows = read.rows;
-      told =
+      exact =
           ap (λ (name : List ℕ). Value read.value name read.version read.rows) proved.to_query.name
           ∙ ap (λ (version : ℕ). Value read.value (slice_index_or values read.value []) version read.rows)
           proved.to_query.same_version;
@@ -151,7 +150,7 @@ module _ (past : List Update) (now : State) (s : ℕ) (names left : List ℕ) (s
   value_permitted : (read : ReadReply) → ProvesAnswer session values read
       → IsPermitted past now (Asks WithProof s names) (value_of read) now
   value_permitted read proved =
-      done_permitted past now (Asks WithProof s names) (value_of read) now refl (nothing_refuses (grounds_at 0))
+      done_permitted past now (Asks WithProof s names) (value_of read) now refl (nothing_refuses (config_at 0))
       (value_answered read proved) refl
 
   pub value_taken : (rest : List ℕ) → JudgesValue session values left (Some rest)

@@ -4,7 +4,7 @@ use Rattle.std.specs.Prelude.{Ok, Err}
 use Rattle.kn_wire.specs.Requests.{Request}
 use Rattle.kn_wire.specs.Feeding.{Held, next_of}
 use Rattle.kn_play.specs.Playing.{IsFed}
-use Rattle.kn_play.proofs.Underway.{takes-request}
+use Rattle.kn_play.proofs.ScriptLoops.{takes-request}
 use Rattle.kn_transcript.specs.declared.fault.TranscriptFault.{TranscriptFault}
 use Rattle.kn_transcript.specs.declared.progress.Progress.{Progress}
 use Rattle.kn_transcript.specs.Progress.{IsAnsweredBy, IsFaultAt, IsNextJudged, IsNextOfScript}

@@ -13,8 +13,9 @@ use Rattle.kn_session.specs.Calls as C
 use Rattle.kn_daemon.specs.Shapes.{Look, ForNew, ForOpen, ForRetained, ForStanding, ForLog, Question, WithProof}
 use Rattle.kn_daemon.specs.Shapes.{WithCritical, ToKeep, Control, ShowSecret, Leave, Shape, Calls, Looks, Asks}
 use Rattle.kn_daemon.specs.Shapes.{Controls, shape_of}
-use Rattle.kn_daemon.specs.Daemon.{Grounds, State, first_state, pinned_to, looked, kept, questioned}
-use Rattle.kn_daemon.specs.Daemon.{controlled, changed, Permits}
+use Rattle.kn_daemon.specs.Daemon.{DaemonConfig, State, first_state, pinned_to, state_after_look, state_keeping}
+use Rattle.kn_daemon.specs.Daemon.{state_after_question}
+use Rattle.kn_daemon.specs.Daemon.{state_after_control, state_after, Permits}
 use Rattle.kn_daemon.specs.Underway.{IsSmall}
 use Rattle.kn_transcript.specs.Followed.{Answered, Follows, history_behind}
 
@@ -65,7 +66,7 @@ module _ (P Q : Session → Type 0) where
     all-called s call xs h = all-map (λ x. x.number == s) (call_change call) (keeps.calls call) keeps.stays xs h
 
     all-looked : (state : State) (look : Look) → AllByRecursion P state.sessions
-        → AllByRecursion Q (looked past state look).sessions
+        → AllByRecursion Q (state_after_look past state look).sessions
     all-looked state ForNew h =
         all-push keeps.stays state.sessions (started_session (state.started + 1) past) h
         (keeps.starts (state.started + 1))
@@ -82,23 +83,23 @@ module _ (P Q : Session → Type 0) where
     all-looked state (ForLog n) h = all-weaker keeps.stays state.sessions h
 
     all-questioned : (state : State) (question : Question) (s : ℕ) (names : List ℕ) → AllByRecursion P state.sessions
-        → AllByRecursion Q (questioned state question s names).sessions
+        → AllByRecursion Q (state_after_question state question s names).sessions
     all-questioned state WithProof s names h = all-weaker keeps.stays state.sessions h
     all-questioned state WithCritical s names h = all-weaker keeps.stays state.sessions h
     all-questioned state ToKeep s names h = by (values_of names)
       where
-        by : (values : Option (List (List ℕ))) → AllByRecursion Q (kept state s values).sessions
+        by : (values : Option (List (List ℕ))) → AllByRecursion Q (state_keeping state s values).sessions
         by None = all-weaker keeps.stays state.sessions h
         by (Some values) =
             all-map (λ x. x.number == s) (watch_with values) (keeps.watches values) keeps.stays state.sessions h
 
     all-controlled : (state : State) (control : Control) → AllByRecursion P state.sessions
-        → AllByRecursion Q (controlled state control).sessions
+        → AllByRecursion Q (state_after_control state control).sessions
     all-controlled state (ShowSecret bytes) h = all-weaker keeps.stays state.sessions h
     all-controlled state Leave h = all-weaker keeps.stays state.sessions h
 
     all-changed : (state : State) (shape : Shape) → AllByRecursion P state.sessions
-        → AllByRecursion Q (changed past state shape).sessions
+        → AllByRecursion Q (state_after past state shape).sessions
     all-changed state (Calls s call) h = all-called s call state.sessions h
     all-changed state (Looks look) h = all-looked state look h
     all-changed state (Asks question s names) h = all-questioned state question s names h
@@ -106,7 +107,7 @@ module _ (P Q : Session → Type 0) where
     all-changed state shape h = all-weaker keeps.stays state.sessions h
 
     -- each reply that is permitted keeps it
-    pub all-permitted : (g : Grounds) (caller : ℕ) (old : State) (shape : Shape) (reply : Reply) (new : State)
+    pub all-permitted : (g : DaemonConfig) (caller : ℕ) (old : State) (shape : Shape) (reply : Reply) (new : State)
         → AllByRecursion P old.sessions → Permits g caller past old shape reply new → AllByRecursion Q new.sessions
     all-permitted g caller old shape (No refusal) new h p =
         subst (λ (s : State). AllByRecursion Q s.sessions) (sym p.1) (all-weaker keeps.stays old.sessions h)
@@ -155,7 +156,7 @@ made-keeps n past = record {
 }
 
 started-looked : (past : List Update) (state : State) (look : Look)
-    → (looked past state look).started ≤ state.started + 1
+    → (state_after_look past state look).started ≤ state.started + 1
 started-looked past state ForNew = omega arith
 started-looked past state (ForOpen s) = omega arith
 started-looked past state (ForRetained s version) = by (retained_version past version)
@@ -167,28 +168,29 @@ started-looked past state (ForStanding s) = omega arith
 started-looked past state (ForLog n) = omega arith
 
 started-questioned : (state : State) (question : Question) (s : ℕ) (names : List ℕ)
-    → (questioned state question s names).started ≤ state.started + 1
+    → (state_after_question state question s names).started ≤ state.started + 1
 started-questioned state WithProof s names = omega arith
 started-questioned state WithCritical s names = omega arith
 started-questioned state ToKeep s names = by (values_of names)
   where
-    by : (values : Option (List (List ℕ))) → (kept state s values).started ≤ state.started + 1
+    by : (values : Option (List (List ℕ))) → (state_keeping state s values).started ≤ state.started + 1
     by None = omega arith
     by (Some values) = omega arith
 
-started-controlled : (state : State) (control : Control) → (controlled state control).started ≤ state.started + 1
+started-controlled : (state : State) (control : Control) → (state_after_control state control).started ≤ state.started
+    + 1
 started-controlled state (ShowSecret bytes) = omega arith
 started-controlled state Leave = omega arith
 
 started-changed : (past : List Update) (state : State) (shape : Shape)
-    → (changed past state shape).started ≤ state.started + 1
+    → (state_after past state shape).started ≤ state.started + 1
 started-changed past state (Calls s call) = omega arith
 started-changed past state (Looks look) = started-looked past state look
 started-changed past state (Asks question s names) = started-questioned state question s names
 started-changed past state (Controls control) = started-controlled state control
 started-changed past state shape = omega arith
 
-started-permitted : (g : Grounds) (caller : ℕ) (past : List Update) (old : State) (shape : Shape) (reply : Reply)
+started-permitted : (g : DaemonConfig) (caller : ℕ) (past : List Update) (old : State) (shape : Shape) (reply : Reply)
     (new : State)
     → Permits g caller past old shape reply new → new.started ≤ old.started + 1
 started-permitted g caller past old shape (No refusal) new p = let same = ap (λ (s : State). s.started) p.1 in

@@ -16,14 +16,15 @@ use Rattle.kn_reply.specs.declared.refusal.Refusal.{Refusal}
 use Rattle.kn_reply.specs.declared.refusal.Refusal.TheVariants as R
 use Rattle.kn_reply.specs.Replies.{Number, Added, No, reply_text}
 use Rattle.kn_daemon.specs.Shapes.{AddText, DropId, Updates}
-use Rattle.kn_daemon.specs.Daemon.{Grounds, State, own_refusal, refusal_of_update, refusal_of_text, refusal_of_store}
+use Rattle.kn_daemon.specs.Daemon.{DaemonConfig, State, own_refusal, refusal_of_update, refusal_of_text}
+use Rattle.kn_daemon.specs.Daemon.{refusal_of_store}
 use Rattle.kn_daemon.specs.Daemon.{refusal_of_verdict, refuse_if}
 use Rattle.kn_daemon.proofs.Reading.{fault-refuses, reading-goes_on}
 use Rattle.kn_transcript.specs.declared.fault.TheConstants.{AUTH_FAULTS}
 use Rattle.kn_transcript.specs.Judging.{IsBehind, Judges}
 use Rattle.kn_transcript.specs.Verdicts.{IsAuthFault, IsBehindVerdict}
-use Rattle.kn_transcript.proofs.Permitted.{grounds_at, own_permitted}
-use Rattle.kn_transcript.proofs.Judged.{taken_by, refused_ok, told_by}
+use Rattle.kn_transcript.proofs.ConfigChoices.{config_at, own_permitted}
+use Rattle.kn_transcript.proofs.DueReplies.{taken_by, refused_ok, told_by}
 use Rattle.kn_transcript.proofs.CommittedLaws.{addition_follows, removal_follows, added_only, removed_only}
 use Rattle.kn_transcript.proofs.VerdictLaws.{NoneStands, RefusesOr, update_placed, update_made}
 
@@ -55,7 +56,7 @@ abbrev pub IsVerdict : Refusal → Type 0
 IsVerdict told = (fault : ℕ) × IsAuthFault fault × (told ≡ R.Auth fault)
 
 module _ (past : List Update) (old : State) (text left : List ℕ) (admin : old.is_admin ≡ true) where
-  shown : (g : Grounds) (o : Option Refusal) → refusal_of_update g (AddText text) ≡ o
+  shown : (g : DaemonConfig) (o : Option Refusal) → refusal_of_update g (AddText text) ≡ o
       → own_refusal g old (Updates (AddText text)) ≡ o
   shown g o is = ap (λ (b : Bool). refuse_if (not b) R.Admin (refusal_of_update g (AddText text))) admin ∙ is
 
@@ -71,14 +72,15 @@ module _ (past : List Update) (old : State) (text left : List ℕ) (admin : old.
       (λ due r some there. refused_ok past old (Updates (AddText text)) left view due
       (λ g. shown g (Some due) (refuses g due some why)) r there)
     where
-      refuses : (g : Grounds) (due : Refusal) → told ≡ Some due → (fault ≡ F.NoMemory) ⊎ (fault_of text ≡ Some fault)
+      refuses : (g : DaemonConfig) (due : Refusal) → told ≡ Some due → (fault ≡ F.NoMemory)
+          ⊎ (fault_of text ≡ Some fault)
           → refusal_of_update g (AddText text) ≡ Some due
       refuses g due some (inl none) = absurd (let gone = is ∙ ap refusal_of_text none in cc (gone, some))
       refuses g due some (inr faulty) = fault-refuses text fault (λ a. refusal_of_verdict (g.verdict text a)) faulty
           ∙ sym is ∙ some
 
   module _ (a : Assertion) (reads : assertion_of text ≡ Some a) where
-    said : (g : Grounds) → refusal_of_update g (AddText text) ≡ refusal_of_verdict (g.verdict text a)
+    said : (g : DaemonConfig) → refusal_of_update g (AddText text) ≡ refusal_of_verdict (g.verdict text a)
     said g = reading-goes_on text a (λ x. refusal_of_verdict (g.verdict text x)) reads
 
     -- the authenticator refuses the text
@@ -86,8 +88,8 @@ module _ (past : List Update) (old : State) (text left : List ℕ) (admin : old.
         → Judges past old (Updates (AddText text)) left past old (Some rest)
     add_unadmitted rest stands =
         let fault : ℕ = stands.0 in
-        let own : own_refusal (grounds_at fault) old (Updates (AddText text)) ≡ Some (R.Auth fault) =
-        shown (grounds_at fault) (Some (R.Auth fault)) (said (grounds_at fault) ∙ verdict_refuses fault stands.1.0) in
+        let own : own_refusal (config_at fault) old (Updates (AddText text)) ≡ Some (R.Auth fault) =
+        shown (config_at fault) (Some (R.Auth fault)) (said (config_at fault) ∙ verdict_refuses fault stands.1.0) in
         taken_by past old (Updates (AddText text)) left past old (No (R.Auth fault)) rest tt
         (own_permitted past old (Updates (AddText text)) (R.Auth fault) fault stands.1.1 own) refl stands.2
 
@@ -132,7 +134,7 @@ module _ (past : List Update) (old : State) (text left : List ℕ) (admin : old.
           ∙ length-append past (u ∷ []) in
           let unrefused = (addition_follows (all_changes past) 0 text (next_id past) accepted).0 in
           update_made past old (AddText text) left IsVerdict admin none result view history (Added id version) tt refl
-          (said (grounds_at 0)) (may none) (ap (option_and_then refusal_of_store) unrefused)
+          (said (config_at 0)) (may none) (ap (option_and_then refusal_of_store) unrefused)
           (here ∙ ap (λ (k : ℕ). past ++ addition_by 0 text k ∷ []) (sym number))
           (next_id past, record { before = past; ends = here; accepted = accepted }, rw (number, at) refl)
           (λ reply is. (added_only past text reply is).0 ∙ rw (number, size) refl) behind
@@ -159,7 +161,7 @@ module _ (past : List Update) (old : State) (text left : List ℕ) (admin : old.
               let placed = store_told (fault_of_text (all_changes past) text) fault told due why' is some in
               subst (λ (h : List Update).
               IfOk r (λ found. Judges past old (Updates (AddText text)) left h old (view found))) (sym kept)
-              (update_placed past old (AddText text) left IsVerdict admin none r view due (said (grounds_at 0))
+              (update_placed past old (AddText text) left IsVerdict admin none r view due (said (config_at 0))
               (may none) placed
               (λ reply done. found_by (fault_of_text (all_changes past) text) due placed
               (added_only past text reply done).1)

@@ -9,22 +9,23 @@ use Rattle.kn_reply.specs.declared.refusal.Refusal.TheVariants as R
 use Rattle.kn_reply.specs.Replies.{Reply, No, reply_text}
 use Rattle.kn_reply_reader.specs.Texts.{HasText}
 use Rattle.kn_daemon.specs.Shapes.{Updating, Shape, Updates}
-use Rattle.kn_daemon.specs.Daemon.{Grounds, State, IsUpdated, own_refusal, placed_refusal, refusal_of_update, refuse_if}
+use Rattle.kn_daemon.specs.Daemon.{DaemonConfig, State, IsUpdated, own_refusal, placed_refusal, refusal_of_update}
+use Rattle.kn_daemon.specs.Daemon.{refuse_if}
 use Rattle.kn_transcript.specs.declared.fault.TheConstants.{AUTH_FAULTS}
 use Rattle.kn_transcript.specs.Followed.{IsPermitted, history_behind}
 use Rattle.kn_transcript.specs.Judging.{IsBehind, Judges}
-use Rattle.kn_transcript.proofs.Permitted.{OnlyAt, grounds_at, is_acceptance, own_only, own_permitted, placed_only}
-use Rattle.kn_transcript.proofs.Permitted.{placed_permitted, done_only, done_permitted}
-use Rattle.kn_transcript.proofs.Judged.{taken_by, refused_ok}
+use Rattle.kn_transcript.proofs.ConfigChoices.{OnlyAt, config_at, is_acceptance, own_only, own_permitted, placed_only}
+use Rattle.kn_transcript.proofs.ConfigChoices.{placed_permitted, done_only, done_permitted}
+use Rattle.kn_transcript.proofs.DueReplies.{taken_by, refused_ok}
 
 -- what an authenticator says of each text is the number of a fault
-abbrev pub HasFaults : Grounds → Type 0
+abbrev pub HasFaults : DaemonConfig → Type 0
 HasFaults g = (text : List ℕ) (assertion : Assertion) → g.verdict text assertion ≤ AUTH_FAULTS
 
 module _ (past : List Update) (old : State) (shape : Shape) (left : List ℕ) (V : Refusal → Type 0) where
   -- such a refusal is the only reply, or this one is
   abbrev pub OnlyOr : Reply → Type 0
-  OnlyOr due = (g : Grounds) → HasFaults g
+  OnlyOr due = (g : DaemonConfig) → HasFaults g
       → ((told : Refusal) × V told × OnlyAt g past old shape (No told)) ⊎ OnlyAt g past old shape due
 
   -- no such refusal stands there
@@ -64,21 +65,22 @@ pub update_unshown : (past : List Update) (old : State) (update : Updating) (lef
 update_unshown past old update left result view out behind =
     refused_ok past old (Updates update) left view R.Admin (λ g. refuses g) result behind
   where
-    refuses : (g : Grounds) → own_refusal g old (Updates update) ≡ Some R.Admin
+    refuses : (g : DaemonConfig) → own_refusal g old (Updates update) ≡ Some R.Admin
     refuses g = ap (λ (b : Bool). refuse_if (not b) R.Admin (refusal_of_update g update)) out
 
 module _ (past : List Update) (old : State) (update : Updating) (left : List ℕ) (V : Refusal → Type 0)
     (admin : old.is_admin ≡ true) (none : NoneStands past old (Updates update) left V) where
-  own_of : (g : Grounds) (o : Option Refusal) → refusal_of_update g update ≡ o → own_refusal g old (Updates update) ≡ o
+  own_of : (g : DaemonConfig) (o : Option Refusal) → refusal_of_update g update ≡ o
+      → own_refusal g old (Updates update) ≡ o
   own_of g o is = ap (λ (b : Bool). refuse_if (not b) R.Admin (refusal_of_update g update)) admin ∙ is
 
   -- such a refusal is found, or else this
   abbrev pub RefusesOr : Option Refusal → Type 0
-  RefusesOr o = (g : Grounds) → HasFaults g
+  RefusesOr o = (g : DaemonConfig) → HasFaults g
       → ((told : Refusal) × V told × (refusal_of_update g update ≡ Some told)) ⊎ (refusal_of_update g update ≡ o)
 
   only_or : (o : Option Refusal) (due : Reply) → RefusesOr o
-      → ((g : Grounds) → own_refusal g old (Updates update) ≡ o → OnlyAt g past old (Updates update) due)
+      → ((g : DaemonConfig) → own_refusal g old (Updates update) ≡ o → OnlyAt g past old (Updates update) due)
       → OnlyOr past old (Updates update) left V due
   only_or o due may next g few = elim (may g few) [
     | inl r ↦ inl (r.0, r.1, own_only past old (Updates update) r.0 g (own_of g (Some r.0) r.2))
@@ -90,35 +92,35 @@ module _ (past : List Update) (old : State) (update : Updating) (left : List ℕ
     Keeps = IfOk result (λ found. Judges past old (Updates update) left past old (view found))
 
     -- the request is refused whatever is said of its texts, or earlier
-    pub update_refused : (refusal : Refusal) → refusal_of_update (grounds_at 0) update ≡ Some refusal
+    pub update_refused : (refusal : Refusal) → refusal_of_update (config_at 0) update ≡ Some refusal
         → RefusesOr (Some refusal) → IfOk result (λ found. IsBehind left (reply_text (No refusal)) (view found)) → Keeps
     update_refused refusal zero may behind =
         judged_or past old (Updates update) left V past old result view none (No refusal) tt
-        (own_permitted past old (Updates update) refusal 0 (omega arith) (own_of (grounds_at 0) (Some refusal) zero))
+        (own_permitted past old (Updates update) refusal 0 (omega arith) (own_of (config_at 0) (Some refusal) zero))
         refl
         (only_or (Some refusal) (No refusal) may (λ g own. own_only past old (Updates update) refusal g own)) behind
 
     -- the history refuses it
-    pub update_placed : (refusal : Refusal) → refusal_of_update (grounds_at 0) update ≡ None → RefusesOr None
+    pub update_placed : (refusal : Refusal) → refusal_of_update (config_at 0) update ≡ None → RefusesOr None
         → placed_refusal past (Updates update) ≡ Some refusal
         → ((reply : Reply) → IsUpdated 0 (history_behind past (Updates update) reply) update reply → ⊥)
         → IfOk result (λ found. IsBehind left (reply_text (No refusal)) (view found)) → Keeps
     update_placed refusal zero may placed never behind =
         judged_or past old (Updates update) left V past old result view none (No refusal) tt
-        (placed_permitted past old (Updates update) refusal (own_of (grounds_at 0) None zero) placed) refl
+        (placed_permitted past old (Updates update) refusal (own_of (config_at 0) None zero) placed) refl
         (only_or None (No refusal) may (λ g own. placed_only past old (Updates update) refusal g own placed
         (λ reply other does. never reply does.answered))) behind
 
     -- it is made
     pub update_made : (history : List Update) (due : Reply) → HasText due → is_acceptance due ≡ true
-        → refusal_of_update (grounds_at 0) update ≡ None → RefusesOr None → placed_refusal past (Updates update) ≡ None
+        → refusal_of_update (config_at 0) update ≡ None → RefusesOr None → placed_refusal past (Updates update) ≡ None
         → history ≡ history_behind past (Updates update) due → IsUpdated 0 history update due
         → ((reply : Reply) → IsUpdated 0 (history_behind past (Updates update) reply) update reply → reply ≡ due)
         → IfOk result (λ found. IsBehind left (reply_text due) (view found))
         → IfOk result (λ found. Judges past old (Updates update) left history old (view found))
     update_made history due text is zero may placed made updated only behind =
         judged_or past old (Updates update) left V history old result view none due text
-        (done_permitted past old (Updates update) due old is (own_of (grounds_at 0) None zero)
+        (done_permitted past old (Updates update) due old is (own_of (config_at 0) None zero)
         (subst (λ (h : List Update). IsUpdated 0 h update due) made updated) refl) made
         (only_or None due may (λ g own. done_only past old (Updates update) due g own placed
         (λ reply other does. only reply does.answered))) behind

@@ -13,7 +13,7 @@ use Rattle.kn_daemon.specs.Daemon.{first_state}
 use Rattle.kn_daemon.specs.Played.{is_last}
 use Rattle.kn_daemon.proofs.Runs.{any-push}
 use Rattle.kn_play.specs.Playing.{IsFed, TakesRequest, IsSpent}
-use Rattle.kn_play.proofs.Underway.{fed-on, taken-first, spent-all}
+use Rattle.kn_play.proofs.ScriptLoops.{fed-on, taken-first, spent-all}
 use Rattle.kn_transcript.specs.declared.fault.TranscriptFault.{TranscriptFault}
 use Rattle.kn_transcript.specs.declared.fault.TranscriptFault.TheVariants as F
 use Rattle.kn_transcript.specs.declared.progress.Progress.{Progress}
@@ -24,7 +24,7 @@ use Rattle.kn_transcript.specs.Faulty.{IsReached, IsJudged, IsFaultyTranscript}
 use Rattle.kn_transcript.specs.Judging.{state_of, HasRoom}
 use Rattle.kn_transcript.specs.Progress.{IsAnsweredBy, IsFaultAt, AreMeant, HasComeTo, IsBeingVerified, IsConcluded}
 use Rattle.kn_transcript.proofs.AnsweredLaws.{first-come, come-on, followed, requests-push}
-use Rattle.kn_transcript.proofs.MeantLaws.{meant-at, meant-last, meant-spent, meant-most}
+use Rattle.kn_transcript.proofs.ScriptRequestLaws.{meant-at, meant-last, meant-spent, meant-most}
 use Rattle.kn_transcript.proofs.SmallLaws.{follows-small}
 
 pub begun : (past : List Update) (script replies : List ℕ) (held : Held) (progress : Progress) → held ≡ Bytes []

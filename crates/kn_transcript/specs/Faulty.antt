@@ -60,7 +60,7 @@ pub record IsForeign (past : List Update) (script replies : List ℕ) (number : 
   pub reached : IsReached past script replies request number left
   pub foreign_is : is_foreign request ≡ true
 
--- The first fault of a transcript. Of one request that isn't judged nothing else is told.
+-- The first fault of a transcript. Of one request that isn't judged nothing else is said.
 abbrev pub IsFaultyTranscript : List Update → List ℕ → List ℕ → TranscriptFault → Type 0
 IsFaultyTranscript past script replies (F.Missing number) = IsJudged past script replies number []
 IsFaultyTranscript past script replies (F.Text number) = HasNoText past script replies number

@@ -5,7 +5,7 @@ use Rattle.kn_history.specs.declared.update.Update.{Update}
 use Rattle.kn_wire.specs.Requests.{Request}
 use Rattle.kn_reply.specs.Replies.{Reply}
 use Rattle.kn_daemon.specs.Shapes.{Shape, shape_of}
-use Rattle.kn_daemon.specs.Daemon.{Grounds, State, Permits}
+use Rattle.kn_daemon.specs.Daemon.{DaemonConfig, State, Permits}
 use Rattle.kn_daemon.specs.Linearized.{update_by}
 use Rattle.kn_transcript.specs.declared.fault.TheConstants.{AUTH_FAULTS}
 
@@ -22,11 +22,11 @@ with_update past (Some update) = past ++ update ∷ []
 abbrev pub history_behind : List Update → Shape → Reply → List Update
 history_behind past shape reply = with_update past (update_by 0 shape reply)
 
--- Whether a secret was right, and what the authenticator said of each text, are told by the reply alone: it is
+-- Whether a secret was right, and what the authenticator said of each text, are shown by the reply alone: it is
 -- permitted where the daemon was started with some secret, and with some authenticator that has no more faults than
 -- there are. The connection is the only one, so each place is behind the updates so far and its own.
 pub record IsPermitted (past : List Update) (old : State) (shape : Shape) (reply : Reply) (new : State) : Type 0 where
-  pub grounds : Grounds
+  pub grounds : DaemonConfig
   pub faults : (text : List ℕ) (assertion : Assertion) → grounds.verdict text assertion ≤ AUTH_FAULTS
   pub permitted : Permits grounds 0 (history_behind past shape reply) old shape reply new
 

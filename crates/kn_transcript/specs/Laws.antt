@@ -9,7 +9,7 @@ use Rattle.kn_wire.specs.Requests.{Request}
 use Rattle.kn_reply.specs.Replies.{Value}
 use Rattle.kn_session.specs.Sessions.{Session}
 use Rattle.kn_daemon.specs.Shapes.{Asks, WithProof, shape_of}
-use Rattle.kn_daemon.specs.Daemon.{Grounds, State, first_state, session_of, equations_of}
+use Rattle.kn_daemon.specs.Daemon.{DaemonConfig, State, first_state, session_of, equations_of}
 use Rattle.kn_daemon.specs.Linearized.{Exchange}
 use Rattle.kn_daemon.specs.Alone.{RunsAlone}
 use Rattle.kn_transcript.specs.declared.fault.TheConstants.{AUTH_FAULTS}
@@ -23,7 +23,8 @@ answered_of e = record { request = e.request; reply = e.reply }
 
 -- what a daemon of one thread replies to a connection that is alone is followed
 abbrev pub RunsAreFollowed : Type 0
-RunsAreFollowed = (g : Grounds) (past : List Update) (old : State) (exchanges : List Exchange) (history : List Update)
+RunsAreFollowed =
+    (g : DaemonConfig) (past : List Update) (old : State) (exchanges : List Exchange) (history : List Update)
     (new : State)
     → ((text : List ℕ) (assertion : Assertion) → g.verdict text assertion ≤ AUTH_FAULTS)
     → RunsAlone g 0 past old exchanges history new → Follows past old (map answered_of exchanges) history new
@@ -58,15 +59,15 @@ IsVersionOf history version = (later : List Update) × (history ≡ version ++ l
 
 -- The version that an open session is pinned to is one of the history that the replies tell. So a value is the least
 -- one over that version of this history.
-abbrev pub VersionsAreTold : Type 0
-VersionsAreTold = (past : List Update) (answered : List Answered) (history : List Update) (state : State) (s : ℕ)
+abbrev pub VersionsAreReported : Type 0
+VersionsAreReported = (past : List Update) (answered : List Answered) (history : List Update) (state : State) (s : ℕ)
     (session : Session)
     → Follows past first_state answered history state → session_of state s ≡ Some session
     → IsVersionOf history session.pinned
 
 -- the transcript is accepted, so many replies give a value, and then there are so many updates; or this is its fault
 abbrev pub HasVerdict : List Update → List ℕ → List ℕ → Result (ℕ × ℕ) TranscriptFault → Type 0
-HasVerdict past script replies (Ok told) = IsAcceptedTranscript past script replies told.0 told.1
+HasVerdict past script replies (Ok counts) = IsAcceptedTranscript past script replies counts.0 counts.1
 HasVerdict past script replies (Err fault) = IsFaultyTranscript past script replies fault
 
 -- a transcript that code may hold has one verdict at most

@@ -49,7 +49,7 @@ abbrev pub NoneIsPermitted : Progress → Request → Type 0
 NoneIsPermitted old request = (reply : Reply) (new : State) → BeginsWith old.left.now reply
     → ¬ IsPermitted old.book (state_of old.connection) (shape_of request) reply new
 
--- The request of this number has this fault. When out of memory nothing is told.
+-- The request of this number has this fault. When out of memory nothing is said.
 abbrev pub IsFaultAt : Progress → Request → ℕ → TranscriptFault → Type 0
 IsFaultAt old request number (F.Missing n) = (is_foreign request ≡ false) × IsMissed old.left.now number (F.Missing n)
 IsFaultAt old request number (F.Text n) = (is_foreign request ≡ false) × IsMissed old.left.now number (F.Text n)
@@ -71,14 +71,14 @@ pub record IsBehindReply (old : Progress) (rest : List ℕ) (new : Progress) : T
   pub left : new.left.now ≡ rest
   pub values : new.answers ≡ counted old.answers (begins_with_value old.left.now)
 
--- these bytes are left behind the reply that was found, or it is told what is amiss where none was
+-- these bytes are left behind the reply that was found, or it is said what is amiss where none was
 abbrev pub IsMovedOn : {X : Type 0} → Progress → Option (List ℕ) → ℕ → Progress → Result X TranscriptFault → Type 0
 IsMovedOn {X} old None number new (Ok done) = ⊥
 IsMovedOn {X} old None number new (Err fault) = IsMissed old.left.now number fault
 IsMovedOn {X} old (Some rest) number new (Ok done) = IsBehindReply old rest new
 IsMovedOn {X} old (Some rest) number new (Err fault) = ⊥
 
--- The next request was spent and its reply judged, if there is a whole one. Told is whether it is the last.
+-- The next request was spent and its reply judged, if there is a whole one. The answer is whether it is the last.
 abbrev pub IsNextJudged : ℕ → Progress → Held → Progress → Held → Result (Option Bool) TranscriptFault → Type 0
 IsNextJudged number old held new after (Ok None) = (next_of held ≡ None) × (after ≡ held) × (new ≡ old)
 IsNextJudged number old held new after (Ok (Some last)) =

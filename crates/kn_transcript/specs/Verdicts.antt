@@ -11,7 +11,7 @@ use Rattle.kn_reply.specs.declared.refusal.ItemRefusal.{ItemRefusal}
 use Rattle.kn_reply.specs.declared.refusal.ItemRefusal.TheVariants as I
 use Rattle.kn_reply.specs.Logs.{item_of}
 use Rattle.kn_reply.specs.Replies.{No, reply_text}
-use Rattle.kn_daemon.specs.Daemon.{Grounds, item_refusal}
+use Rattle.kn_daemon.specs.Daemon.{DaemonConfig, item_refusal}
 use Rattle.kn_transcript.specs.declared.fault.TheConstants.{AUTH_FAULTS}
 use Rattle.kn_transcript.specs.declared.items.ReadItems.{ReadItems}
 
@@ -62,13 +62,13 @@ HasReading (DropId k) = ⊤
 
 -- the item is refused so whatever an authenticator says of it, or without a refusal memory ran out
 abbrev pub IsUnread : BatchItem → Option ItemRefusal → Type 0
-IsUnread item refusal = (refusal ≡ None) ⊎ ((g : Grounds) → item_refusal g item ≡ refusal)
+IsUnread item refusal = (refusal ≡ None) ⊎ ((g : DaemonConfig) → item_refusal g item ≡ refusal)
 
 -- all items are in front of the first that isn't read, or that one is behind them
 abbrev pub IsFirstUnread : List BatchItem → Option ItemRefusal → Type 0
 IsFirstUnread behind None = behind ≡ []
 IsFirstUnread behind (Some refusal) = (item : BatchItem) × (rest : List BatchItem) × (behind ≡ item ∷ rest)
-    × ((g : Grounds) → item_refusal g item ≡ Some refusal)
+    × ((g : DaemonConfig) → item_refusal g item ≡ Some refusal)
 
 -- the items in front of the first whose text has no reading, and why that one is refused
 pub record AreRead (items : List BatchItem) (read : ReadItems) : Type 0 where

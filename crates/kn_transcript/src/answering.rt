@@ -1,6 +1,6 @@
 //! The reply to one request of a transcript.
 ghost use Rattle.std.specs.Prelude.{◌≡◌, ◌<◌, ◌^◌, IfOk, false, length, option_map};
-ghost use Rattle.kn_wire.specs.Digits.{IsWellFormed};
+ghost use Rattle.kn_wire.specs.Hex.{IsWellFormed};
 ghost use Rattle.kn_wire.specs.Requests.{Faulty};
 ghost use Rattle.kn_wire.specs.Wired.{request_of};
 ghost use Rattle.kn_daemon.specs.Shapes.{shape_of, shape_in_code};
@@ -10,8 +10,8 @@ ghost use Rattle.kn_transcript.specs.Accepted.{is_foreign};
 ghost use Rattle.kn_transcript.specs.Judging.{state_of, HasRoom, JudgesReply};
 ghost use Rattle.kn_transcript.specs.Progress.{begins_with_value, IsMissed, IsRequestJudged, IsMovedOn};
 
-use crate::admitting::judge_fault;
 use crate::connection::Connection;
+use crate::connection_replies::judge_fault;
 use crate::fault::TranscriptFault;
 use crate::judging::judge;
 use crate::progress::Progress;

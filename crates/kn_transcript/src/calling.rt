@@ -3,8 +3,8 @@ ghost use Rattle.std.specs.Prelude.{◌≡◌, ◌≤◌, List, IfOk, length, op
 ghost use Rattle.kn_base.specs.declared.limits.TheConstants.{ASSERTION_BYTES};
 ghost use Rattle.kn_history.specs.declared.update.Update.{Update};
 ghost use Rattle.kn_session.specs.Calls.{Set, call_of, asserted};
-ghost use Rattle.kn_wire.specs.Digits.{bytes_of_digits};
-ghost use Rattle.kn_wire.specs.Requests.{are_digits};
+ghost use Rattle.kn_wire.specs.Hex.{bytes_of_hex};
+ghost use Rattle.kn_wire.specs.Requests.{is_hex};
 ghost use Rattle.kn_daemon.specs.Shapes.{Calls};
 ghost use Rattle.kn_transcript.specs.Judging.{state_of, HasRoom, Judges};
 
@@ -13,7 +13,7 @@ use crate::matching::{behind_refusal, behind_reply};
 use kn_base::NoMemory;
 use kn_refusals::{refusal_of_call, reply_of_applied};
 use kn_session::Call;
-use kn_wire::decode_digits;
+use kn_wire::decode_hex;
 use std::alloc::Global;
 
 /// Judges the reply to a call of a session.
@@ -36,7 +36,7 @@ pub(crate) fn judge_call<'a>(
 }
 
 /// Judges the reply to the call that sets an attribute to the bytes of digits.
-pub(crate) fn judge_digits<'a>(
+pub(crate) fn judge_set_hex<'a>(
     alloc: Global,
     connection: &mut Connection,
     s: u32,
@@ -45,12 +45,12 @@ pub(crate) fn judge_digits<'a>(
     left: &'a [u8],
 ) -> Result<Option<&'a [u8]>, NoMemory>
     requires room { HasRoom (state_of connection.old) }
-    requires digits { are_digits digits.now ≡ true }
+    requires digits { is_hex digits.now ≡ true }
     ensures judged { (past : List Update) → IfOk result (λ found. Judges past (state_of connection.old)
-        (Calls s (Set name.now (bytes_of_digits digits.now))) left.now past (state_of connection.new)
+        (Calls s (Set name.now (bytes_of_hex digits.now))) left.now past (state_of connection.new)
         (option_map (λ rest. rest.now) found)) }
 {
-    let bytes = decode_digits(alloc, digits)?;
+    let bytes = decode_hex(alloc, digits)?;
     let value = bytes.as_slice();
     judge_call(alloc, connection, s, Call::Set { name, value }, left)
 }

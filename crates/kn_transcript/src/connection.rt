@@ -6,7 +6,7 @@ ghost use Rattle.kn_transcript.specs.Judging.{state_of};
 use kn_session::Sessions;
 use std::alloc::Global;
 
-/// The sessions of a connection, and whether a reply told that the administrators' secret was right.
+/// The sessions of a connection, and whether a reply said that the administrators' secret was right.
 #[derive(Drop)]
 pub(crate) struct Connection {
     pub sessions: Sessions,
@@ -14,6 +14,7 @@ pub(crate) struct Connection {
 }
 
 impl Connection {
+    /// A connection at its beginning: no session is open, and no secret was right.
     pub fn new(alloc: Global) -> Connection
         ensures { state_of result ≡ first_state }
     {

@@ -1,15 +1,15 @@
 //! The reply to any request that a transcript judges.
 ghost use Rattle.std.specs.Prelude.{◌≡◌, IfOk, false, option_map};
-ghost use Rattle.kn_wire.specs.Digits.{IsWellFormed};
+ghost use Rattle.kn_wire.specs.Hex.{IsWellFormed};
 ghost use Rattle.kn_wire.specs.Wired.{request_of};
 ghost use Rattle.kn_daemon.specs.Shapes.{shape_of};
 ghost use Rattle.kn_transcript.specs.Accepted.{is_foreign};
 ghost use Rattle.kn_transcript.specs.Judging.{state_of, HasRoom, Judges};
 
-use crate::admitting::{judge_bye, judge_secret};
 use crate::batching::judge_batch;
-use crate::calling::{judge_call, judge_digits};
+use crate::calling::{judge_call, judge_set_hex};
 use crate::connection::Connection;
+use crate::connection_replies::{judge_bye, judge_secret};
 use crate::opening::{judge_open, judge_pin, judge_pin_at};
 use crate::querying::judge_query;
 use crate::updating::{judge_add, judge_drop};
@@ -43,7 +43,7 @@ pub(crate) fn judge<'a>(
         Shape::Remove { k } => judge_drop(alloc, book, connection, k, left),
         Shape::Batch { block } => judge_batch(alloc, book, connection, block, left),
         Shape::Call { s, call } => judge_call(alloc, connection, s, call, left),
-        Shape::SetDigits { s, name, digits } => judge_digits(
+        Shape::SetDigits { s, name, digits } => judge_set_hex(
             alloc, connection, s, name, digits, left,
         ),
         Shape::Query { s, values } => judge_query(alloc, connection, s, values, left),

@@ -6,11 +6,11 @@
 //! settled.
 #![tactic(auto)]
 
-mod admitting;
 mod answering;
 mod batching;
 mod calling;
 mod connection;
+mod connection_replies;
 mod fault;
 mod items;
 mod judging;

@@ -9,7 +9,7 @@ ghost use Rattle.kn_transcript.specs.Progress.{IsNextJudged, IsNextOfScript};
 use crate::answering::{judge_refused, judge_request};
 use crate::fault::TranscriptFault;
 use crate::progress::Progress;
-use kn_play::{is_block, is_bye, push_piece};
+use kn_play::{is_block, is_bye, push_chunk};
 use kn_wire::Feed;
 use std::alloc::Global;
 
@@ -36,7 +36,7 @@ pub(crate) fn judge_next(
                 if *from == script.len() {
                     return Ok(None);
                 }
-                *from = push_piece(script, feed, *from);
+                *from = push_chunk(script, feed, *from);
             }
         }
     }

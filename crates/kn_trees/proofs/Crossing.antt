@@ -5,7 +5,7 @@ use Rattle.kn_trees.specs.contracts.forest.Node as node
 use Rattle.kn_trees.specs.contracts.forest.LinkNode as link
 use Rattle.kn_trees.specs.contracts.forest.Forest as forest
 use Rattle.kn_trees.specs.contracts.root.Root as root
-use Rattle.kn_trees.specs.contracts.flat.FlatExpr as flat
+use Rattle.kn_trees.specs.contracts.flat_expr.FlatExpr as flat
 
 node_send : IsSend (node.the_field).row
 node_send = search sendable depth 60

@@ -2,6 +2,6 @@ pub mod Additions
 pub mod Crossing
 pub mod Folds
 pub mod Forests
-pub mod Kinded
-pub mod Leveled
+pub mod ExprKindLaws
+pub mod ExprDepthLaws
 pub mod Roots

@@ -16,7 +16,7 @@ use Rattle.kn_trees.specs.declared.program.Expr.TheVariants as E
 use Rattle.kn_trees.specs.declared.program.Operation.{Operation}
 use Rattle.kn_trees.specs.declared.root.Root.{Root}
 use Rattle.kn_trees.proofs.Forests.{map-same, tree_at-append}
-use Rattle.kn_trees.proofs.Kinded.{kinds_of}
+use Rattle.kn_trees.proofs.ExprKindLaws.{kinds_of}
 
 IsRoot-append : (trees more : List Expr) (root : Root) → IsRoot trees root → IsRoot (trees ++ more) root
 IsRoot-append trees more root here = record {

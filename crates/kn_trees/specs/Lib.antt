@@ -3,6 +3,6 @@ pub mod Forests
 pub mod Forms
 pub mod Formulas
 pub mod Kinds
-pub mod Levels
+pub mod Depths
 pub mod Roots
 pub mod Signs

@@ -31,14 +31,14 @@ impl<'e> Model for ExprRef<'e> {
     ghost invariant = { λ e. e.place < length e.forest.now };
 }
 
-/// Parts of an expression with `&&` or `||` between them, seen as the list of their trees.
+/// Operands of an expression with `&&` or `||` between them, seen as the list of their trees.
 #[derive(Drop)]
-pub struct Parts<'e> {
+pub struct Operands<'e> {
     forest: &'e Forest,
     places: &'e [u32],
 }
 
-impl<'e> Model for Parts<'e> {
+impl<'e> Model for Operands<'e> {
     ghost use Rattle.std.specs.Prelude.{◌<◌, List, All, length, map};
     ghost use Rattle.kn_trees.specs.declared.program.Expr.{Expr};
     ghost use Rattle.kn_trees.specs.contracts.program.Expr as expr;
@@ -80,21 +80,33 @@ impl<'e> Model for Links<'e> {
 /// What an expression is made of: the variants of `Expr`, with parts that are lent.
 #[derive(Drop)]
 pub enum Form<'e> {
+    /// `true` or `false`.
     Truth(bool),
+    /// A number.
     Whole(i32),
+    /// The value of a literal, without its quotes.
     Text(&'e [u8]),
+    /// A name, which has a value in an environment.
     Name(&'e [u8]),
+    /// `!`.
     Not(ExprRef<'e>),
+    /// `-` before an expression.
     Minus(ExprRef<'e>),
+    /// `@`: the number that a text begins with.
     Number(ExprRef<'e>),
+    /// `$`: the value of the name that a text is.
     Deref(ExprRef<'e>),
-    And(Parts<'e>),
-    Or(Parts<'e>),
+    /// Two or more operands with `&&` between them.
+    And(Operands<'e>),
+    /// Two or more operands with `||` between them.
+    Or(Operands<'e>),
+    /// A comparison of two expressions.
     Compare {
         sign: Comparison,
         left: ExprRef<'e>,
         right: ExprRef<'e>,
     },
+    /// Operations of one level of the grammar, grouped to the left; there is at least one.
     Chain {
         first: ExprRef<'e>,
         rest: Links<'e>,
@@ -120,8 +132,8 @@ impl<'e> ExprRef<'e> {
     }
 }
 
-impl<'e> Parts<'e> {
-    /// How many parts there are.
+impl<'e> Operands<'e> {
+    /// How many operands there are.
     #[inline(always)]
     pub fn len(&self) -> usize
         ensures { result ≡ length self.now }
@@ -129,7 +141,7 @@ impl<'e> Parts<'e> {
         self.places.len()
     }
 
-    /// The part at place `k`, counted from 0.
+    /// The operand at place `k`, counted from 0.
     #[inline(always)]
     pub fn get(&self, k: usize) -> ExprRef<'e>
         requires { k < length self.now }
@@ -192,11 +204,11 @@ fn form_at(forest: &Forest, place: u32) -> Form<'_>
         Node::Minus(part) => Form::Minus(ExprRef::at(forest, part)),
         Node::Number(part) => Form::Number(ExprRef::at(forest, part)),
         Node::Deref(part) => Form::Deref(ExprRef::at(forest, part)),
-        Node::And(span) => Form::And(Parts {
+        Node::And(span) => Form::And(Operands {
             forest,
             places: run(forest.parts.as_slice(), span),
         }),
-        Node::Or(span) => Form::Or(Parts {
+        Node::Or(span) => Form::Or(Operands {
             forest,
             places: run(forest.parts.as_slice(), span),
         }),

@@ -2,7 +2,7 @@
 #![tactic(auto)]
 
 mod assertion;
-mod flat;
+mod flat_expr;
 mod forest;
 mod form;
 mod formula;
@@ -14,8 +14,8 @@ mod stack;
 mod typing;
 
 pub use assertion::Assertion;
-pub use flat::FlatExpr;
-pub use form::{ExprRef, Form, Links, Parts};
+pub use flat_expr::FlatExpr;
+pub use form::{ExprRef, Form, Links, Operands};
 pub use formula::Formula;
 pub use kinds::Kind;
 pub use program::{Clause, Comparison, Expr, Link2, Operation, Program, Then};

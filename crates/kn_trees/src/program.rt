@@ -1,5 +1,5 @@
 //! Conditions programs as trees.
-use crate::flat::FlatExpr;
+use crate::flat_expr::FlatExpr;
 use kn_base::{Boxed, List, Octets};
 
 /// A conditions program (RFC 2704, section 4, the Conditions field): its clauses but for the empty ones.

@@ -58,7 +58,7 @@ impl Prefix {
 
     /// The kind of an expression with this sign, by the kind of the part behind it.
     #[inline(always)]
-    #[tactic(auto, using(crate::proofs::Kinded::kinds))]
+    #[tactic(auto, using(crate::proofs::ExprKindLaws::kinds))]
     pub(crate) fn kind(self, part: Option<Kind>) -> Option<Kind>
         ensures { (tree : Expr) → part ≡ kind_of tree → result ≡ kind_of (prefixed self tree) }
     {

@@ -9,7 +9,7 @@ ghost use Rattle.kn_trees.specs.ExprKinds.{kind_of};
 ghost use Rattle.kn_trees.specs.Roots.{trees_at, IsRoot};
 ghost use Rattle.kn_trees.specs.Signs.{joined, leaf_of, prefixed};
 
-use crate::flat::FlatExpr;
+use crate::flat_expr::FlatExpr;
 use crate::forest::{Forest, Node};
 use crate::kinds::Kind;
 use crate::program::{Comparison, Operation};
@@ -62,7 +62,7 @@ impl ExprStack {
 
     /// Puts `true` or `false` on top.
     #[inline(always)]
-    #[tactic(auto, using(crate::proofs::Kinded::kinds))]
+    #[tactic(auto, using(crate::proofs::ExprKindLaws::kinds))]
     pub fn push_truth(&mut self, value: bool) -> Result<(), NoMemory>
         ensures ok { OnOk result (self.new ≡ self.old ++ E.Truth value ∷ []) }
         ensures err { OnErr result (self.new ≡ self.old) }
@@ -73,7 +73,7 @@ impl ExprStack {
 
     /// Puts a number on top.
     #[inline(always)]
-    #[tactic(auto, using(crate::proofs::Kinded::kinds))]
+    #[tactic(auto, using(crate::proofs::ExprKindLaws::kinds))]
     pub fn push_whole(&mut self, value: i32) -> Result<(), NoMemory>
         ensures ok { OnOk result (self.new ≡ self.old ++ E.Whole value ∷ []) }
         ensures err { OnErr result (self.new ≡ self.old) }

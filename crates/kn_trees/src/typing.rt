@@ -98,7 +98,7 @@ pub(crate) fn chain_kind(first: Option<Kind>, signs: &[Operation], rights: &[Roo
 
 /// Whether each test of a program is a truth, and each value a text.
 #[cycle(programs)]
-#[tactic(auto, using(crate::proofs::Kinded::well_kinded))]
+#[tactic(auto, using(crate::proofs::ExprKindLaws::well_kinded))]
 pub fn is_well_kinded(program: &Program) -> bool
     ensures { result ≡ is_well_kinded program.now }
 {
@@ -111,7 +111,7 @@ pub fn is_well_kinded(program: &Program) -> bool
 }
 
 #[cycle(programs)]
-#[tactic(auto, using(crate::proofs::Kinded::well_kinded))]
+#[tactic(auto, using(crate::proofs::ExprKindLaws::well_kinded))]
 fn is_clause_well_kinded(clause: &Clause) -> bool
     ensures { result ≡ is_clause_well_kinded clause.now }
 {
@@ -119,7 +119,7 @@ fn is_clause_well_kinded(clause: &Clause) -> bool
 }
 
 #[cycle(programs)]
-#[tactic(auto, using(crate::proofs::Kinded::well_kinded))]
+#[tactic(auto, using(crate::proofs::ExprKindLaws::well_kinded))]
 fn is_then_well_kinded(then: &Then) -> bool
     ensures { result ≡ is_then_well_kinded then.now }
 {

@@ -1,6 +1,6 @@
 pub mod Sums
 pub mod Prefixes
-pub mod Named
+pub mod PassEntries
 pub mod StepLemmas
 pub mod SeatLemmas
 pub mod PassLemmas

@@ -9,7 +9,7 @@ use Rattle.kn_turn.specs.declared.view.Stage.TheVariants.{Idle, Waits, Served, H
 use Rattle.kn_turn.specs.Views.{child_view, parent_view}
 use Rattle.kn_turn.specs.Invariant.{IsSoundView}
 use Rattle.kn_turn.specs.Passes.{is_idle_at, is_between_calls, slots_of, Carries}
-use Rattle.kn_turn.proofs.Named.{entries_of-above, all_up_to-later}
+use Rattle.kn_turn.proofs.PassEntries.{entries_of-above, all_up_to-later}
 
 pub idle_stage : (st : Stage) → is_idle_at st ≡ true → st ≡ Idle
 idle_stage Idle is = refl

@@ -20,8 +20,8 @@ use Rattle.kn_turn.specs.Views.{note_view, spent_view, ended_of, after_absorb, a
 use Rattle.kn_turn.specs.Invariant.{Fits, IsHome, IsKept, settles}
 use Rattle.kn_turn.proofs.Sums.{one_if-le, one_if-same, one_if-other, total-append, total-set, total-snoc, total-two}
 use Rattle.kn_turn.proofs.Prefixes.{longer_between, longer-nil}
-use Rattle.kn_turn.proofs.Named.{entries_of-above, entries_of-between, has_ended-between, has_ended-append}
-use Rattle.kn_turn.proofs.Named.{all_up_to-prefix, all_up_to-later}
+use Rattle.kn_turn.proofs.PassEntries.{entries_of-above, entries_of-between, has_ended-between, has_ended-append}
+use Rattle.kn_turn.proofs.PassEntries.{all_up_to-prefix, all_up_to-later}
 use Rattle.kn_turn.proofs.StepLemmas.{St, M, one_changes, apart_still, home_still, sound_of, named_live}
 
 module _ {S E : Type 0} (by : E → ℕ) (log : S → List E) where

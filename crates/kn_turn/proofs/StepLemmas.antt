@@ -25,8 +25,9 @@ use Rattle.kn_turn.specs.Invariant.{takes_value, appends, looks, confirms, passe
 use Rattle.kn_turn.proofs.Sums.{one_if-same, one_if-other, other-one_if, total-set, total-at, total-two, total-zero}
 use Rattle.kn_turn.proofs.Sums.{total-le, total-gap}
 use Rattle.kn_turn.proofs.Prefixes.{prefix_self, prefix_same, prefix_more, longer-nil}
-use Rattle.kn_turn.proofs.Named.{entries_of-append, entries_of-own, entries_of-still, has_ended-more, all_up_to-prefix}
-use Rattle.kn_turn.proofs.Named.{all_up_to-more}
+use Rattle.kn_turn.proofs.PassEntries.{entries_of-append, entries_of-own, entries_of-still, has_ended-more}
+use Rattle.kn_turn.proofs.PassEntries.{all_up_to-prefix}
+use Rattle.kn_turn.proofs.PassEntries.{all_up_to-more}
 
 module _ {S E : Type 0} (by : E → ℕ) (log : S → List E) where
   abbrev pub St : Type 0

@@ -96,8 +96,7 @@ module _ {S E : Type 0} where
 
   -- where the front is the length of what was seen, that is the whole history
   abbrev pub confirms : Step (Option S) → Sat S E → ℕ → Sat S E → Type 0
-  confirms st m r m' =
-      (r ≡ length m.0.seen → m' ≡ (after_confirm m.0, m.1)) × (r ≢ length m.0.seen → m' ≡ m)
+  confirms st m r m' = (r ≡ length m.0.seen → m' ≡ (after_confirm m.0, m.1)) × (r ≢ length m.0.seen → m' ≡ m)
 
   -- the turn goes to the next ticket, and the value home
   abbrev pub passes_on : Step (Option S) → Sat S E → ℕ → Sat S E → Type 0

@@ -4,7 +4,7 @@ use std::sync::Wait;
 use std::sync::atomic::AtomicU64;
 use std::sync::atomic::Ordering::SeqCst;
 
-/// As many as there can be passes at a turn.
+/// As many as there can be passes at a turn (`PASSES` of `kn_base::limits`); `Parking` has as many places.
 const PLACES: u64 = 64;
 
 /// Nobody sleeps at the place.
@@ -31,6 +31,7 @@ pub struct Parking {
 }
 
 impl Parking {
+    /// Places at which nobody sleeps.
     pub fn new() -> Parking {
         Parking {
             places: array::from_fn(|_| AtomicU64::new(EMPTY)),

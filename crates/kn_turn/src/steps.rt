@@ -6,6 +6,7 @@ use crate::view::View;
 use atomic_table::{Join, Play, Split, TableRule};
 use std::marker::{Brand, PhantomData};
 
+/// The rule of the table: the invariant of a turn, and what its first seat knows.
 pub struct ByTickets<S> {
     of: PhantomData<S>,
 }

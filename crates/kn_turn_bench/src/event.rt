@@ -1,6 +1,7 @@
 //! What a call of the registry answered, and prints of what a snapshot shows.
 use kn_store::Version;
 
+/// An answer of the registry.
 #[derive(Clone, Copy)]
 pub enum Event {
     /// The id, the version, and the print of the text.
@@ -19,6 +20,7 @@ pub(crate) fn mix(print: u64, word: u64) -> u64 {
     (print ^ word).wrapping_mul(0x0100_0000_01b3)
 }
 
+/// The print of a text's bytes, in their order.
 pub(crate) fn print_of_text(text: &[u8]) -> u64 {
     let mut print = EMPTY;
     for byte in text {

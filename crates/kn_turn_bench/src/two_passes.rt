@@ -60,7 +60,7 @@ fn has_alone(version: &Version) -> bool {
     version.len() == 1 && version.credential(0).text.as_slice() == CREDENTIAL
 }
 
-/// The id that a removal told as unknown.
+/// The id that a removal gave back as unknown.
 fn unknown_id(removal: Result<u32, StoreFault>) -> Option<u32> {
     match removal {
         Err(StoreFault::Unknown { id }) => Some(id),

@@ -2,6 +2,7 @@
 use std::env::{self, Args};
 use std::io;
 
+/// What is run.
 pub enum Command {
     /// Two passes in turn, and a short history.
     Try,
@@ -9,6 +10,7 @@ pub enum Command {
     History(u32, u32, u32),
     /// So many workers, with so many pins each, and so many readings behind each pin.
     Pins(u32, u32, u32),
+    /// So many workers that pin once, and then do as many readings as the product of the other two.
     Reads(u32, u32, u32),
     /// So many workers that pin, and so many updates.
     Updates(u32, u32),

@@ -43,7 +43,7 @@ answers_are_proved session values reply some answer =
     let within : answer.level ≤ length values - 1 =
     level-within (equations_of session values) answer.rows answer.level answer.proved in (
       _,
-      answer.told,
+      answer.exact,
       record {
         to_query = record { same_version = refl; within = omega arith; name = refl };
         proof = answer.proved;

@@ -1,4 +1,4 @@
-pub mod Rejected
+pub mod RefusedRows
 pub mod OneReason
-pub mod Verified
+pub mod NumberedReplies
 pub mod Accepted

@@ -25,7 +25,7 @@ pub record IsProved (e : Equations) (version : ℕ) (values : List (List ℕ)) (
   pub least : IsPolicyLevel e reply.value
 
 -- The reply is one to the query, but its rows prove no such value: this is the first item that fails, and the only
--- reason that can be told.
+-- reason that can be given.
 pub record IsUnproved (e : Equations) (version : ℕ) (values : List (List ℕ)) (reply : ReadReply) (reject : Reject) :
     Type 0 where
   pub to_query : IsReplyTo version values reply

@@ -2,7 +2,7 @@
 ghost use Rattle.kn_verify.specs.Accepted.{AnswersAreProved, ProvedIsAccepted};
 ghost use Rattle.kn_verify.specs.Rejections.{OneReason, NotBoth};
 
-/// Rows that are refused are told one reason, and are no proof, where the ids of the assertions differ.
+/// Rows that are refused are given one reason, and are no proof, where the ids of the assertions differ.
 pub fn one_verdict()
     ensures reason { OneReason }
     ensures not_both { NotBoth }

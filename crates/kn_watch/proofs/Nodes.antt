@@ -7,8 +7,8 @@ use Rattle.std.proofs.lemmas.Bool.Decides.{nat_tests}
 use Rattle.std.proofs.lemmas.List.{get_or_append_left, get_or-append_right, get_or-append-add, length-replicate}
 use Rattle.std.proofs.lemmas.List.Elements.{All-head, All-tail}
 use Rattle.std.proofs.lemmas.Option.{get_or_from_slice_get, slice_get-get_or, slice_get_within}
-use Rattle.kn_system.specs.declared.links.Up.{Up}
-use Rattle.kn_system.specs.declared.links.Up.TheVariants.{Node, Row}
+use Rattle.kn_system.specs.declared.nodes.Up.{Up}
+use Rattle.kn_system.specs.declared.nodes.Up.TheVariants.{Node, Row}
 use Rattle.kn_system.specs.declared.rows.Piece.{Piece}
 use Rattle.kn_system.specs.declared.rows.Piece.TheVariants.{Who, Gate}
 use Rattle.kn_system.specs.Equations.{SystemEquations, IsSystem, IsSystemRow, node_total, row_at}
@@ -17,8 +17,8 @@ use Rattle.kn_system.specs.Nodes.{pieces_of, row_ups, ups_of, ups_of_rows, uses_
 use Rattle.kn_system.specs.Rows.{SystemRow}
 use Rattle.kn_system.proofs.KeptRows.{ups-append}
 use Rattle.kn_settle.specs.Counters.{piece_at, rank}
-use Rattle.kn_settle.proofs.Formed.{length-ups_of}
-use Rattle.kn_settle.proofs.Used.{use_found, use_read}
+use Rattle.kn_settle.proofs.NodeParents.{length-ups_of}
+use Rattle.kn_settle.proofs.VisitedUses.{use_found, use_read}
 use Rattle.kn_watch.specs.Affected.{UsesPrincipal}
 use Rattle.kn_watch.specs.Climbing.{place_of_node, row_of_node}
 

@@ -15,9 +15,9 @@ use Rattle.kn_system.specs.Least.{worth, highest_worth, round_at, round, rounds,
 use Rattle.kn_system.specs.Order.{Below, Carries}
 use Rattle.kn_system.specs.Rows.{SystemRow}
 use Rattle.kn_system.proofs.Climb.{Carries-cons, form_levels-le}
-use Rattle.kn_system.proofs.Reached.{threshold-carried}
+use Rattle.kn_system.proofs.Thresholds.{threshold-carried}
 use Rattle.kn_system.proofs.Settles.{least_levels-is_least}
-use Rattle.kn_system.proofs.Turned.{at_first-below, at_first-le, by_principal, round-le}
+use Rattle.kn_system.proofs.Rounds.{at_first-below, at_first-le, by_principal, round-le}
 use Rattle.kn_watch.specs.Affected.{UsesPrincipal}
 
 Carries-take : (u n : ℕ) (xs ys : List ℕ) → 0 < u → Carries u xs ys → Carries u (take n xs) (take n ys)

@@ -153,6 +153,7 @@ pub(crate) fn affected_by<L>(
     ensures ticks { (others : ListOf Bool) → HasChanged system.now changed.now others → HasUsers system.now others
         → IsWithin (find_ticks system.now others) steps.old steps.new }
 {
+    // The contract of `levels` says that the system is well formed.
     let _levels = system.levels();
     let mut affected = Affected::nobody(alloc, system.principals())?;
     match affected.flag_changed(system, changed) {

@@ -1,4 +1,4 @@
-//! Rows that changed.
+//! Rows whose ceiling changed since the levels were settled, with the former one.
 /// A row whose ceiling changed since the levels were settled, or that was pushed since.
 #[derive(Clone, Copy, PartialEq, Eq, Drop)]
 pub struct Changed {

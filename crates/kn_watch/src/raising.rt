@@ -63,6 +63,7 @@ pub(crate) fn raise_all<L>(
     ensures least { levels.new ≡ least_levels system.now }
     ensures ticks { IsWithin (raise_ticks system.now affected.now) steps.old steps.new }
 {
+    // The contract of `levels` says that the system is well formed.
     let _levels = system.levels();
     while raise_each(system, affected, levels, steps) {}
 }

@@ -53,6 +53,7 @@ pub fn refresh<L>(
     ensures ticks { (affected : ListOf Bool) → AreAffected system.now changed.now affected
         → IsWithin (most_refresh_ticks system.now affected) steps.old steps.new }
 {
+    // The contract of `levels` says that the system is well formed.
     let _levels = system.levels();
     let affected = affected_by(alloc, system, changed, steps)?;
     let affected = affected.as_slice();

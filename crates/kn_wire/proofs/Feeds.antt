@@ -13,7 +13,7 @@ use Rattle.kn_wire.specs.declared.cursor.Stage.TheVariants as S
 use Rattle.kn_wire.specs.Cursors.{IsSound, held_at, held_by}
 use Rattle.kn_wire.specs.Firsts.{HasNoneBelow}
 use Rattle.kn_wire.specs.Feeding.{Held, Bytes, InLong, next_of, pushed, held_after}
-use Rattle.kn_wire.specs.Requests.{Request, Line, Whole, Blocked, Faulty, first_of, first_of_line, first_of_block}
+use Rattle.kn_wire.specs.Requests.{Request, Line, Whole, WithBlock, Faulty, first_of, first_of_line, first_of_block}
 use Rattle.kn_wire.specs.Requests.{line_of, line_length, without_return, is_newline}
 use Rattle.kn_wire.proofs.Firsts.{after_first_of}
 use Rattle.kn_wire.proofs.Growing.{no_request, line-first, long-first, line_within, ended-longer, open-longer}
@@ -81,7 +81,7 @@ some_first request left = Some (request, left)
 
 waiting_short : (line : Line) (rest : List ℕ) → first_of_line line rest ≡ None → length rest ≤ 16384
 waiting_short (Whole request) rest none = absurd (no_request (request, rest) (sym none))
-waiting_short (Blocked n request) rest none = by (nat_lt 16384 n) refl none
+waiting_short (WithBlock n request) rest none = by (nat_lt 16384 n) refl none
   where
     by_newline : (t : Bool)
         → (if t then some_first (request (take n rest)) (drop (n + 1) rest) else some_first (Faulty (Block n)) [])

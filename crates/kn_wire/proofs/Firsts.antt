@@ -10,7 +10,7 @@ use Rattle.kn_wire.specs.declared.head.Head.{Head}
 use Rattle.kn_wire.specs.Feeding.{Bytes, Shut, next_of, held_after}
 use Rattle.kn_wire.specs.Firsts.{HasNoneBelow, SpendsLine, SpendsBlock, WaitsFor, NamesBlock}
 use Rattle.kn_wire.specs.Lines.{blocked_of, with_block}
-use Rattle.kn_wire.specs.Requests.{Request, Line, Whole, Blocked, Faulty, first_of, first_of_line, first_of_block}
+use Rattle.kn_wire.specs.Requests.{Request, Line, Whole, WithBlock, Faulty, first_of, first_of_line, first_of_block}
 use Rattle.kn_wire.specs.Requests.{line_of, line_length, without_return}
 use Rattle.kn_wire.proofs.Growing.{line-first, none-first, ended-longer, same_first, spent}
 use Rattle.kn_wire.proofs.LineFits.{IsKept, IsKeptLine, kept-line}
@@ -61,7 +61,7 @@ waits_for_newline text end ends short all =
 
 no_block : (line : Line) → blocked_of line ≡ None → (request : Request) × (line ≡ Whole request)
 no_block (Whole request) none = (request, refl)
-no_block (Blocked n request) none = cc
+no_block (WithBlock n request) none = cc
 
 -- so many bytes are the line without its carriage return
 bare_part : (text : List ℕ) (end : ℕ) → end ≤ length text
@@ -98,14 +98,14 @@ spends_line text line end ends short within bare none =
 
 -- A line that names a block.
 
-named : (line : Line) (n : ℕ) (request : List ℕ → Request) → Some (Blocked n request) ≡ blocked_of line
-    → line ≡ Blocked n request
+named : (line : Line) (n : ℕ) (request : List ℕ → Request) → Some (WithBlock n request) ≡ blocked_of line
+    → line ≡ WithBlock n request
 named (Whole request') n request e = cc
-named (Blocked n' request') n request e = same_first (Blocked n' request') (Blocked n request) (sym e)
+named (WithBlock n' request') n request e = same_first (WithBlock n' request') (WithBlock n request) (sym e)
 
 pub names_block : (text line : List ℕ) (end n : ℕ) (request : List ℕ → Request) → end ≡ line_length text → end ≤ 8192
     → end < length text → line ≡ without_return (take end text)
-    → Some (Blocked n request) ≡ blocked_of (line_of line) → NamesBlock text end n request
+    → Some (WithBlock n request) ≡ blocked_of (line_of line) → NamesBlock text end n request
 names_block text line end n request ends short within bare names =
     record {
       ends = ends;
@@ -116,19 +116,19 @@ names_block text line end n request ends short within bare names =
 
 -- the request of the block is that of the text
 block_line : (text : List ℕ) (end n : ℕ) (request : List ℕ → Request) → NamesBlock text end n request
-    → first_of text ≡ first_of_line (Blocked n request) (drop (end + 1) text)
+    → first_of text ≡ first_of_line (WithBlock n request) (drop (end + 1) text)
 block_line text end n request names =
     at_line text end names.ends names.short names.within ∙ ap (λ l. first_of_line l (drop (end + 1) text)) names.names
 
 above : (n : ℕ) (request : List ℕ → Request) (rest : List ℕ) → 16384 < n
-    → first_of_line (Blocked n request) rest ≡ Some (Faulty (Block n), [])
+    → first_of_line (WithBlock n request) rest ≡ Some (Faulty (Block n), [])
 above n request rest large =
     ap (λ t. if t then Some (Faulty (Block n), []) else first_of_block n request rest (slice_get rest n))
     (lt-ltb 16384 n large)
 
 -- the request of a block that isn't too large, by the byte behind it
 within_limit : (n : ℕ) (request : List ℕ → Request) (rest : List ℕ) → n ≤ 16384
-    → first_of_line (Blocked n request) rest ≡ first_of_block n request rest (slice_get rest n)
+    → first_of_line (WithBlock n request) rest ≡ first_of_block n request rest (slice_get rest n)
 within_limit n request rest small =
     ap (λ t. if t then Some (Faulty (Block n), []) else first_of_block n request rest (slice_get rest n))
     (le-ltb 16384 n small)

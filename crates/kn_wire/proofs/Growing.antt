@@ -10,7 +10,7 @@ use Rattle.std.proofs.lemmas.List.Folds.{prefix_len-append}
 use Rattle.std.proofs.lemmas.Option.{slice_get_within}
 use Rattle.std.proofs.lemmas.Grind.{common_steps}
 use Rattle.kn_wire.specs.declared.fault.WireFault.TheVariants.{Long, Block}
-use Rattle.kn_wire.specs.Requests.{Request, Line, Takes, Whole, Blocked, Faulty, first_of, first_of_line}
+use Rattle.kn_wire.specs.Requests.{Request, Line, Takes, Whole, WithBlock, Faulty, first_of, first_of_line}
 use Rattle.kn_wire.specs.Requests.{first_of_block, line_of, line_length, without_return, is_newline}
 use Rattle.kn_wire.specs.Feeding.{Held, Bytes, InLong, Shut, held_bytes, pushed, held_after, next_of, is_shut}
 use Rattle.kn_wire.proofs.LineFits.{IsKeptLine, kept-line}
@@ -191,7 +191,7 @@ unfolding Longer
 line-grows (Whole request) text rest more first kept e =
     ap (λ h. Some (request, held_bytes (pushed h more))) (sym (kept text rest))
     ∙ ap (λ f. Some (Longer text more f)) (same_first (request, rest) first e)
-line-grows (Blocked n request) text rest more first kept e = by (nat_lt 16384 n) e
+line-grows (WithBlock n request) text rest more first kept e = by (nat_lt 16384 n) e
   where
     by : (t : Bool) → (if t then Some (Faulty (Block n), []) else first_of_block n request rest (slice_get rest n))
         ≡ Some first
@@ -263,7 +263,7 @@ line-fate : (line : Line) (text rest : List ℕ) (first : Request × List ℕ) �
 unfolding Fate
 line-fate (Whole request) text rest first kept e =
     subst (Fate text) (same_first (request, rest) first e) (inl (kept text rest))
-line-fate (Blocked n request) text rest first kept e = by (nat_lt 16384 n) e
+line-fate (WithBlock n request) text rest first kept e = by (nat_lt 16384 n) e
   where
     by_newline : (t : Bool)
         → (if t then Some (request (take n rest), drop (n + 1) rest) else Some (Faulty (Block n), [])) ≡ Some first

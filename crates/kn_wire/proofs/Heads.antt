@@ -4,7 +4,8 @@ use Rattle.std.proofs.Common.{refl, sym, ap, ◌∙◌, codes}
 use Rattle.std.specs.List.{before_first}
 use Rattle.kn_base.specs.Decimal.{decimal_of}
 use Rattle.kn_wire.specs.Lines.{blocked_of}
-use Rattle.kn_wire.specs.Requests.{Request, Add, Assert, Batch, Line, Blocked, word_of, behind_space, is_space, line_of}
+use Rattle.kn_wire.specs.Requests.{Request, Add, Assert, Batch, Line, WithBlock, word_of, behind_space, is_space}
+use Rattle.kn_wire.specs.Requests.{line_of}
 use Rattle.kn_wire.specs.Requests.{line_of_word, or_malformed}
 use Rattle.kn_wire.specs.declared.word.Word.TheVariants as W
 use Rattle.kn_wire.proofs.LineFits.{NamesNone, whole-line, word_spelled}
@@ -17,7 +18,7 @@ abbrev AllBlocked : Option Line → Type 0
 AllBlocked o = o ≡ blocked_of (or_malformed o)
 
 blocked-map : {A : Type 0} (o : Option A) (n : A → ℕ) (request : A → List ℕ → Request)
-    → AllBlocked (option_map (λ a. Blocked (n a) (request a)) o)
+    → AllBlocked (option_map (λ a. WithBlock (n a) (request a)) o)
 blocked-map None n request = refl
 blocked-map (Some a) n request = refl
 

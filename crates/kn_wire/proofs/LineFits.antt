@@ -14,13 +14,13 @@ use Rattle.kn_wire.specs.declared.fault.WireFault.TheVariants.{Syntax, Command}
 use Rattle.kn_wire.specs.declared.request.Request.{Request as Wired}
 use Rattle.kn_wire.specs.declared.word.Word.{Word}
 use Rattle.kn_wire.specs.declared.word.Word.TheVariants as W
-use Rattle.kn_wire.specs.Digits.{IsWellFormed}
+use Rattle.kn_wire.specs.Hex.{IsWellFormed}
 use Rattle.kn_wire.specs.Feeding.{Bytes, held_after}
 use Rattle.kn_wire.specs.Lines.{blocked_of}
 use Rattle.kn_wire.specs.Requests.{Request, Open, Close, Pin, Assert, Retract, Set, SetHex, Unset, Auth, Unauth, Clear}
 use Rattle.kn_wire.specs.Requests.{Query, Watch, News, Unwatch, Critical, Admin, Add, Drop, Batch, PinAt, Log, Bye}
-use Rattle.kn_wire.specs.Requests.{Faulty, Line, Whole, Blocked, word_of, behind_space, with_number, number_after}
-use Rattle.kn_wire.specs.Requests.{is_space, is_word, are_digits, when, pin_at_line, pin_line, line_of_word}
+use Rattle.kn_wire.specs.Requests.{Faulty, Line, Whole, WithBlock, word_of, behind_space, with_number, number_after}
+use Rattle.kn_wire.specs.Requests.{is_space, is_word, is_hex, when, pin_at_line, pin_line, line_of_word}
 use Rattle.kn_wire.specs.Requests.{or_malformed, line_of_command, line_of}
 use Rattle.kn_wire.specs.Wired.{request_of, request_or_fault}
 
@@ -30,12 +30,12 @@ IsKept request = (text left : List ℕ) → held_after text request left ≡ Byt
 
 abbrev pub IsKeptLine : Line → Type 0
 IsKeptLine (Whole request) = IsKept request
-IsKeptLine (Blocked n request) = (block : List ℕ) → IsKept (request block)
+IsKeptLine (WithBlock n request) = (block : List ℕ) → IsKept (request block)
 
 -- the request is of its form, with each block that isn't too long
 abbrev pub OfForm : Line → Type 0
 OfForm (Whole request) = IsWellFormed request
-OfForm (Blocked n request) = (block : List ℕ) → length block ≤ 16384 → IsWellFormed (request block)
+OfForm (WithBlock n request) = (block : List ℕ) → length block ≤ 16384 → IsWellFormed (request block)
 
 -- the word is none that a block follows
 abbrev IsOther : Word → Type 0
@@ -55,16 +55,16 @@ whole-fits : (word : Option Word) (rest : Option (List ℕ)) (request : Request)
 whole-fits word rest request kept form = record { kept = kept; form = form; whole = λ names. refl }
 
 blocked-fits : (word : Word) (text : List ℕ) (n : ℕ) (request : List ℕ → Request)
-    → (IsOther word → None ≡ Some (Blocked n request))
+    → (IsOther word → None ≡ Some (WithBlock n request))
     → ((block : List ℕ) → IsKept (request block))
     → ((block : List ℕ) → length block ≤ 16384 → IsWellFormed (request block))
-    → Fits (Some word) (Some text) (Blocked n request)
+    → Fits (Some word) (Some text) (WithBlock n request)
 blocked-fits word text n request never kept form = record { kept = kept; form = form; whole = whole }
   where
     differ : (other : Word) → (Some word ≢ Some other) → word ≢ other
     differ other d e = d (subst (λ w. Some word ≡ Some w) e refl)
 
-    whole : NamesNone (Some word) (Some text) → None ≡ Some (Blocked n request)
+    whole : NamesNone (Some word) (Some text) → None ≡ Some (WithBlock n request)
     whole (inl none) = cc
     whole (inr other) = never (differ W.Add other.0, differ W.Assert other.1, differ W.Batch other.2)
 
@@ -173,26 +173,26 @@ spelled W.Set rest =
     (λ word. simple W.Set rest (Set s (before_first is_space more) (after_first is_space more)) (λ t l. refl) tt)))
 spelled W.SetHex rest =
     of-and_then (Fits (Some W.SetHex) rest) rest _ (λ text. of-number _ text _ (λ s more.
-    of-when _ (is_word (before_first is_space more) && are_digits (after_first is_space more))
+    of-when _ (is_word (before_first is_space more) && is_hex (after_first is_space more))
     (SetHex s (before_first is_space more) (after_first is_space more))
     (λ both. simple W.SetHex rest (SetHex s (before_first is_space more) (after_first is_space more)) (λ t l. refl)
-    (second (is_word (before_first is_space more)) (are_digits (after_first is_space more)) both))))
+    (second (is_word (before_first is_space more)) (is_hex (after_first is_space more)) both))))
 spelled W.Admin rest =
     of-and_then (Fits (Some W.Admin) rest) rest _
-    (λ text. of-when (Fits (Some W.Admin) rest) (nat_lt 0 (length text) && are_digits text) (Admin text)
-    (λ both. simple W.Admin rest (Admin text) (λ t l. refl) (second (nat_lt 0 (length text)) (are_digits text) both)))
+    (λ text. of-when (Fits (Some W.Admin) rest) (nat_lt 0 (length text) && is_hex text) (Admin text)
+    (λ both. simple W.Admin rest (Admin text) (λ t l. refl) (second (nat_lt 0 (length text)) (is_hex text) both)))
 spelled W.Add None = tt
 spelled W.Add (Some text) =
-    of-map _ (decimal_of text) (λ n. Blocked n Add)
+    of-map _ (decimal_of text) (λ n. WithBlock n Add)
     (λ n. blocked-fits W.Add text n Add (λ other. absurd (other.0 refl)) (λ block t l. refl) (λ block short. short))
 spelled W.Batch None = tt
 spelled W.Batch (Some text) =
-    of-map _ (decimal_of text) (λ n. Blocked n Batch)
+    of-map _ (decimal_of text) (λ n. WithBlock n Batch)
     (λ n. blocked-fits W.Batch text n Batch (λ other. absurd (other.2 refl)) (λ block t l. refl) (λ block short. short))
 spelled W.Assert None = tt
 spelled W.Assert (Some text) =
     of-number (Fits (Some W.Assert) (Some text)) text _
-    (λ s more. of-map _ (decimal_of more) (λ n. Blocked n (Assert s))
+    (λ s more. of-map _ (decimal_of more) (λ n. WithBlock n (Assert s))
     (λ n. blocked-fits W.Assert text n (Assert s) (λ other. absurd (other.1 refl)) (λ block t l. refl)
     (λ block short. short)))
 

@@ -10,7 +10,7 @@ use Rattle.kn_wire.specs.declared.fault.WireFault.TheVariants.{Long, Block}
 use Rattle.kn_wire.specs.Requests.{Request, Line, Takes, AreRequests, first_of, first_of_line, first_of_block, line_of}
 use Rattle.kn_wire.specs.Requests.{line_length, without_return, is_newline}
 use Rattle.kn_wire.specs.Requests.Request.{Faulty}
-use Rattle.kn_wire.specs.Requests.Line.{Whole, Blocked}
+use Rattle.kn_wire.specs.Requests.Line.{Whole, WithBlock}
 
 no_request : (first : Request × List ℕ) → None ≡ Some first → ⊥
 no_request first e = cc
@@ -66,7 +66,7 @@ line_spends : (line : Line) (text : List ℕ) (first : Request × List ℕ) → 
 line_spends (Whole request) text first e =
     let left = ap (λ (p : Request × List ℕ). length p.1) (same_first (request, text) first e) in
     omega (arith, left)
-line_spends (Blocked n request) text first e = by (nat_lt 16384 n) e
+line_spends (WithBlock n request) text first e = by (nat_lt 16384 n) e
   where
     by : (large : Bool)
         → (if large then Some (Faulty (Block n), []) else first_of_block n request text (slice_get text n)) ≡ Some first

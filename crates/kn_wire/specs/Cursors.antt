@@ -28,7 +28,7 @@ pub record IsSound (cursor : Cursor) (bytes : List ℕ) : Type 0 where
 abbrev pub Advances : Held → Advanced → List ℕ → Held → Type 0
 Advances old A.Nothing bytes new = (next_of old ≡ None) × (new ≡ old)
 Advances old (A.Line line) bytes new = SpendsLine old bytes line new
-Advances old (A.Blocked head block) bytes new = SpendsBlock old bytes head block new
+Advances old (A.WithBlock head block) bytes new = SpendsBlock old bytes head block new
 Advances old (A.Refused fault) bytes new = next_of old ≡ Some (Faulty fault, new)
 
 -- where nothing was spent, fewer bytes are held than hold a request, and unless all is as before, the first line was
@@ -37,5 +37,5 @@ abbrev pub Waits : Cursor → Advanced → List ℕ → Cursor → Type 0
 Waits old A.Nothing bytes new = (length (drop new.from bytes) < new.needed)
     × ((new ≡ old) ⊎ (new.searched ≡ line_length (drop new.from bytes)))
 Waits old (A.Line line) bytes new = ⊤
-Waits old (A.Blocked head block) bytes new = ⊤
+Waits old (A.WithBlock head block) bytes new = ⊤
 Waits old (A.Refused fault) bytes new = ⊤

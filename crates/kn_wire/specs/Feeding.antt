@@ -3,7 +3,7 @@ use Rattle.std.specs.Prelude.{ℕ, Bool, true, false, List, [], ◌++◌, Option
 use Rattle.std.specs.List.{list_any, after_first}
 use Rattle.kn_wire.specs.declared.fault.WireFault.{WireFault}
 use Rattle.kn_wire.specs.declared.fault.WireFault.TheVariants as F
-use Rattle.kn_wire.specs.Requests.{Request, Faulty, Content, BlockOf, DigitsOf, Plain, FaultOf}
+use Rattle.kn_wire.specs.Requests.{Request, Faulty, Content, BlockOf, HexOf, Plain, FaultOf}
 use Rattle.kn_wire.specs.Requests.{content_of, first_of, is_newline}
 
 -- Bytes that belong to no answered request; or a long line that was answered before its newline came; or nothing for
@@ -42,7 +42,7 @@ held_after_fault text (F.Block n) left = Shut n
 -- of it
 abbrev pub held_after_content : List ℕ → Content → List ℕ → Held
 held_after_content text (BlockOf block) left = Bytes left
-held_after_content text (DigitsOf digits) left = Bytes left
+held_after_content text (HexOf digits) left = Bytes left
 held_after_content text Plain left = Bytes left
 held_after_content text (FaultOf fault) left = held_after_fault text fault left
 

@@ -37,7 +37,7 @@ pub record WaitsFor (text : List ℕ) (searched needed : ℕ) : Type 0 where
 abbrev pub IsFirst : List ℕ → First → Type 0
 IsFirst text (F.Waits searched needed) = WaitsFor text searched needed
 IsFirst text (F.Line line bytes) = SpendsLine (Bytes text) text line (Bytes (drop bytes text)) × (bytes ≤ length text)
-IsFirst text (F.Blocked head block bytes) =
+IsFirst text (F.WithBlock head block bytes) =
     SpendsBlock (Bytes text) text head block (Bytes (drop bytes text)) × (bytes ≤ length text)
 IsFirst text (F.Long n) = (n ≡ line_length text) × (LINE_BYTES < n)
 IsFirst text (F.Unended n) = next_of (Bytes text) ≡ Some (D.Faulty (Block n), Shut n)
@@ -47,4 +47,4 @@ pub record NamesBlock (text : List ℕ) (end n : ℕ) (request : List ℕ → D.
   pub ends : end ≡ line_length text
   pub short : end ≤ LINE_BYTES
   pub within : end < length text
-  pub names : line_of (without_return (take end text)) ≡ D.Blocked n request
+  pub names : line_of (without_return (take end text)) ≡ D.WithBlock n request

@@ -16,7 +16,7 @@ abbrev pub IsWithin : ℕ → BatchItem → Type 0
 IsWithin bytes (B.Add text) = length text.now ≤ bytes
 IsWithin bytes (B.Remove k) = ⊤
 
--- a block departs from the form at the item that is told; nothing is said of it when out of memory
+-- a block departs from the form at the item that is named; nothing is said of it when out of memory
 abbrev pub HasFault : List ℕ → BatchText → Type 0
 HasFault block (Form item) = items_of block ≡ Err item
 HasFault block NoMemory = ⊤

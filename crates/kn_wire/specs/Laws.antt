@@ -44,7 +44,7 @@ abbrev pub ItemsAreRead : Type 0
 ItemsAreRead = (block : List ℕ) (items : List BatchItem) → AreItems block items → AllByRecursion IsShortItem items
     → items_of block ≡ Ok items
 
--- a block of which none are read departs from the form at the item that is told
+-- a block of which none are read departs from the form at the item that is named
 abbrev pub BlockDeparts : Type 0
 BlockDeparts = (block : List ℕ) (number : ℕ) → items_of block ≡ Err number → DepartsAt block number
 

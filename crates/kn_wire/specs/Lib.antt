@@ -1,6 +1,6 @@
 pub mod Requests
 pub mod Items
-pub mod Digits
+pub mod Hex
 pub mod Feeding
 pub mod Pieces
 pub mod Laws

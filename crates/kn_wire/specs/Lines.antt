@@ -16,17 +16,17 @@ with_block H.Batch block = D.Batch block
 
 -- the line of a head whose block has so many bytes
 abbrev pub line_of_head : Head × ℕ → D.Line
-line_of_head (head, n) = D.Blocked n (with_block head)
+line_of_head (head, n) = D.WithBlock n (with_block head)
 
 -- the line, if it names a block
 abbrev pub blocked_of : D.Line → Option D.Line
 blocked_of (D.Whole request) = None
-blocked_of (D.Blocked n request) = Some (D.Blocked n request)
+blocked_of (D.WithBlock n request) = Some (D.WithBlock n request)
 
 -- the request that a line names without a block
 abbrev pub whole_of : D.Line → Option D.Request
 whole_of (D.Whole request) = Some request
-whole_of (D.Blocked n request) = None
+whole_of (D.WithBlock n request) = None
 
 -- the request that a command word and what follows it spell without a block
 abbrev pub request_of_word : Word → Option (List ℕ) → Option D.Request

@@ -42,7 +42,7 @@ pub data Request : Type 0 where
 -- what stands in a request beside numbers, names and texts: a block, digits, nothing of these, or it is a fault
 pub data Content : Type 0 where
   BlockOf : List ℕ → Content
-  DigitsOf : List ℕ → Content
+  HexOf : List ℕ → Content
   Plain : Content
   FaultOf : WireFault → Content
 
@@ -53,7 +53,7 @@ content_of (Pin s) = Plain
 content_of (Assert s block) = BlockOf block
 content_of (Retract s k) = Plain
 content_of (Set s name value) = Plain
-content_of (SetHex s name digits) = DigitsOf digits
+content_of (SetHex s name digits) = HexOf digits
 content_of (Unset s name) = Plain
 content_of (Auth s principal) = Plain
 content_of (Unauth s principal) = Plain
@@ -63,7 +63,7 @@ content_of (Watch s names) = Plain
 content_of (News s) = Plain
 content_of (Unwatch s) = Plain
 content_of (Critical s names) = Plain
-content_of (Admin digits) = DigitsOf digits
+content_of (Admin digits) = HexOf digits
 content_of (Add block) = BlockOf block
 content_of (Drop k) = Plain
 content_of (Batch block) = BlockOf block
@@ -102,7 +102,7 @@ word_of text =
 -- what a line names: a whole request, or one that a block of so many bytes completes
 pub data Line : Type 0 where
   Whole : Request → Line
-  Blocked : ℕ → (List ℕ → Request) → Line
+  WithBlock : ℕ → (List ℕ → Request) → Line
 
 abbrev pub is_space : ℕ → Bool
 is_space b = b == 32
@@ -137,8 +137,8 @@ is_hex_digit b =
     else nat_le 97 b && nat_le b 102
 
 -- an even number of hexadecimal digits
-abbrev pub are_digits : List ℕ → Bool
-are_digits text = list_all is_hex_digit text && (length text % 2 == 0)
+abbrev pub is_hex : List ℕ → Bool
+is_hex text = list_all is_hex_digit text && (length text % 2 == 0)
 
 abbrev pub or_empty : Option (List ℕ) → List ℕ
 or_empty None = []
@@ -163,7 +163,8 @@ line_of_word W.Close rest = option_and_then (λ text. option_map (λ s. Whole (C
 line_of_word W.Pin rest = option_and_then pin_line rest
 line_of_word W.Clear rest = option_and_then (λ text. option_map (λ s. Whole (Clear s)) (decimal_of text)) rest
 line_of_word W.Assert rest =
-    option_and_then (λ text. with_number text (λ s more. option_map (λ n. Blocked n (Assert s)) (decimal_of more))) rest
+    option_and_then (λ text. with_number text (λ s more. option_map (λ n. WithBlock n (Assert s)) (decimal_of more)))
+    rest
 line_of_word W.Retract rest =
     option_and_then (λ text. with_number text (λ s more.
     option_map (λ k. Whole (Retract s k)) (number_after 112 more))) rest
@@ -172,7 +173,7 @@ line_of_word W.Set rest =
     (Set s (before_first is_space more) (after_first is_space more)))) rest
 line_of_word W.SetHex rest =
     option_and_then (λ text. with_number text (λ s more.
-    when (is_word (before_first is_space more) && are_digits (after_first is_space more))
+    when (is_word (before_first is_space more) && is_hex (after_first is_space more))
     (SetHex s (before_first is_space more) (after_first is_space more)))) rest
 line_of_word W.Unset rest =
     option_and_then (λ text. with_number text (λ s more. when (is_word more) (Unset s more))) rest
@@ -184,10 +185,10 @@ line_of_word W.News rest = option_and_then (λ text. option_map (λ s. Whole (Ne
 line_of_word W.Unwatch rest = option_and_then (λ text. option_map (λ s. Whole (Unwatch s)) (decimal_of text)) rest
 line_of_word W.Critical rest =
     option_and_then (λ text. with_number text (λ s more. Some (Whole (Critical s more)))) rest
-line_of_word W.Admin rest = option_and_then (λ text. when (nat_lt 0 (length text) && are_digits text) (Admin text)) rest
-line_of_word W.Add rest = option_and_then (λ text. option_map (λ n. Blocked n Add) (decimal_of text)) rest
+line_of_word W.Admin rest = option_and_then (λ text. when (nat_lt 0 (length text) && is_hex text) (Admin text)) rest
+line_of_word W.Add rest = option_and_then (λ text. option_map (λ n. WithBlock n Add) (decimal_of text)) rest
 line_of_word W.Remove rest = option_and_then (λ text. option_map (λ k. Whole (Drop k)) (number_after 97 text)) rest
-line_of_word W.Batch rest = option_and_then (λ text. option_map (λ n. Blocked n Batch) (decimal_of text)) rest
+line_of_word W.Batch rest = option_and_then (λ text. option_map (λ n. WithBlock n Batch) (decimal_of text)) rest
 line_of_word W.Log rest = option_and_then (λ text. option_map (λ n. Whole (Log n)) (decimal_of text)) rest
 
 -- a line that is not of the form of its command
@@ -221,7 +222,7 @@ first_of_block n request text (Some b) =
 -- the request of a line and of what follows it, if that is there, and what is left
 abbrev pub first_of_line : Line → List ℕ → Option (Request × List ℕ)
 first_of_line (Whole request) text = Some (request, text)
-first_of_line (Blocked n request) text =
+first_of_line (WithBlock n request) text =
     if nat_lt ASSERTION_BYTES n then Some (Faulty (Block n), [])
     else first_of_block n request text (slice_get text n)
 

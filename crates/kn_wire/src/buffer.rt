@@ -2,7 +2,7 @@
 ghost use Rattle.std.specs.Prelude.{◌≡◌, ◌+◌, ◌≤◌, [], length, take, drop, vec_len, IfOk, IfSome, OnErr};
 ghost use Rattle.kn_outside.specs.Reading.{Reads, Fails};
 
-use crate::feed::PIECE_BYTES;
+use crate::feed::CHUNK_BYTES;
 use kn_outside::{Failed, Link};
 
 /// Moves the bytes from a place to another to the front, and tells how many they are.
@@ -35,15 +35,15 @@ pub(crate) fn read_behind<L: Link>(
     end: usize,
     link: &mut L,
 ) -> Result<usize, Failed>
-    requires { end + PIECE_BYTES ≤ vec_len buffer.old }
+    requires { end + CHUNK_BYTES ≤ vec_len buffer.old }
     ensures front { take end buffer.new.items ≡ take end buffer.old.items }
     ensures len { vec_len buffer.new ≡ vec_len buffer.old }
-    ensures few { IfOk result (λ bytes. bytes ≤ PIECE_BYTES) }
+    ensures few { IfOk result (λ bytes. bytes ≤ CHUNK_BYTES) }
     ensures read { IfOk result (λ bytes. Reads (take bytes (drop end buffer.new.items))
         (L.seen link.old) (L.seen link.new)) }
     ensures over { IfOk result (λ bytes. bytes ≡ 0 → IfSome (L.seen link.new).left (λ left. left ≡ [])) }
     ensures err { OnErr result (Fails (L.seen link.old) (L.seen link.new)) }
     ensures later { (L.seen link.old).faults ≤ (L.seen link.new).faults }
 {
-    link.read(&mut buffer[end..end + PIECE_BYTES])
+    link.read(&mut buffer[end..end + CHUNK_BYTES])
 }

@@ -27,7 +27,7 @@ pub(crate) enum Advanced {
     /// This line was spent, which names no block.
     Line(Part),
     /// This block was spent, and the line before it.
-    Blocked { head: Head, block: Part },
+    WithBlock { head: Head, block: Part },
     Refused(WireFault),
 }
 
@@ -93,9 +93,9 @@ impl Cursor {
                 self.spend(bytes);
                 Advanced::Line(line.behind(start))
             }
-            First::Blocked { head, block, bytes } => {
+            First::WithBlock { head, block, bytes } => {
                 self.spend(bytes);
-                Advanced::Blocked {
+                Advanced::WithBlock {
                     head,
                     block: block.behind(start),
                 }

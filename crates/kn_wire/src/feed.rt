@@ -17,10 +17,10 @@ use kn_outside::{Failed, Link};
 use std::alloc::Global;
 
 /// The most bytes of a piece.
-pub const PIECE_BYTES: usize = 4_096;
+pub const CHUNK_BYTES: usize = 4_096;
 
 /// A line with its newline, a block, and a piece.
-const BUFFER_BYTES: usize = LINE_BYTES + 1 + ASSERTION_BYTES + PIECE_BYTES;
+const BUFFER_BYTES: usize = LINE_BYTES + 1 + ASSERTION_BYTES + CHUNK_BYTES;
 
 /// The bytes that came and belong to no answered request, in one buffer for good.
 ///
@@ -46,7 +46,7 @@ impl Feed {
     ghost use Rattle.kn_wire.specs.Parts.{part_of};
     ghost use Rattle.kn_wire.specs.Requests as D;
     ghost use Rattle.kn_wire.specs.Requests.{line_of};
-    ghost use Rattle.kn_wire.specs.Digits.{IsWellFormed};
+    ghost use Rattle.kn_wire.specs.Hex.{IsWellFormed};
     ghost use Rattle.kn_wire.specs.Wired.{request_of, request_or_fault};
     ghost use mathlib.Core.Option.{none};
     ghost use Rattle.kn_wire.specs.Feeding.{Bytes, pushed, next_of, held_bytes};
@@ -72,7 +72,7 @@ impl Feed {
 
     /// Adds a piece behind the bytes held, once `next` has answered None.
     pub fn push(&mut self, piece: &[u8])
-        requires short { length piece.now ≤ PIECE_BYTES }
+        requires short { length piece.now ≤ CHUNK_BYTES }
         requires none { next_of (held self.old) ≡ None }
         ensures { held self.new ≡ pushed (held self.old) piece.now }
     {
@@ -110,7 +110,7 @@ impl Feed {
                 Ok(request) => Ok(Some(request)),
                 Err(fault) => Err(fault),
             },
-            Advanced::Blocked { head, block } => Ok(Some(self.complete(head, block))),
+            Advanced::WithBlock { head, block } => Ok(Some(self.complete(head, block))),
             Advanced::Refused(fault) => Err(fault),
         }
     }
@@ -169,7 +169,7 @@ impl Feed {
     fn make_room(&mut self)
         requires none { next_of (held self.old) ≡ None }
         ensures held { held self.new ≡ held self.old }
-        ensures room { self.new.end + PIECE_BYTES ≤ BUFFER_BYTES }
+        ensures room { self.new.end + CHUNK_BYTES ≤ BUFFER_BYTES }
     {
         match self.cursor.stage {
             Stage::Reading => {

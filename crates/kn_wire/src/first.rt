@@ -23,7 +23,7 @@ pub(crate) enum First {
         bytes: usize,
     },
     /// A request with its block. So many bytes are spent.
-    Blocked {
+    WithBlock {
         head: Head,
         block: Part,
         bytes: usize,
@@ -84,7 +84,7 @@ fn read_block(text: &[u8], end: usize, head: Head, n: usize) -> First
     if text[start + n] != b'\n' {
         return First::Unended { n };
     }
-    First::Blocked {
+    First::WithBlock {
         head,
         block: Part { start, len: n },
         bytes: start + n + 1,

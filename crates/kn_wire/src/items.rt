@@ -23,6 +23,7 @@ pub enum BatchText {
     /// The block departs from the form at this item, counted from 1: none begins there, or 256 items stand before it
     /// and a byte follows.
     Form { item: u32 },
+    /// Out of memory for the list of items.
     NoMemory,
 }
 

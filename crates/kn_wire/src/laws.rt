@@ -4,7 +4,7 @@ ghost use Rattle.std.specs.Prelude.{◌≡◌};
 ghost use Rattle.kn_wire.specs.Laws.{LineIsFirst, SomeReading, OneReading, RequestsGrow, PiecesAreRequests};
 ghost use Rattle.kn_wire.specs.Laws.{BatchIsItems, ItemsAreRead, BlockDeparts, DepartingIsRefused};
 
-use crate::feed::PIECE_BYTES;
+use crate::feed::CHUNK_BYTES;
 
 /// The first request of a text that begins with a line of at most 8,192 bytes and its newline is that of the line.
 pub fn line_is_first()
@@ -38,5 +38,5 @@ pub fn batch_is_items()
 
 /// The bytes of a piece that a feed takes at once.
 pub fn piece_limit()
-    ensures { PIECE_BYTES ≡ 4096 }
+    ensures { CHUNK_BYTES ≡ 4096 }
 {}

@@ -6,11 +6,11 @@
 
 mod buffer;
 mod cursor;
-mod digits;
 mod fault;
 mod feed;
 mod first;
 mod head;
+mod hex;
 mod items;
 pub mod laws;
 mod line;
@@ -20,8 +20,8 @@ mod split;
 mod word;
 pub mod worked;
 
-pub use digits::{are_digits_of, decode_digits};
 pub use fault::WireFault;
-pub use feed::{Feed, PIECE_BYTES};
+pub use feed::{CHUNK_BYTES, Feed};
+pub use hex::{decode_hex, is_hex_of};
 pub use items::{BatchItem, BatchText, batch_items};
 pub use request::Request;

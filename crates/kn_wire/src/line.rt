@@ -3,11 +3,11 @@ ghost use Rattle.std.specs.Prelude.{◌≡◌, not, option_map, option_and_then,
 ghost use Rattle.std.specs.List.{list_all};
 ghost use Rattle.kn_wire.specs.Lines.{blocked_of, name_and_rest, request_of_word, whole_of};
 ghost use Rattle.kn_wire.specs.Requests as D;
-ghost use Rattle.kn_wire.specs.Requests.{line_of, pin_at_line, is_space, is_word, are_digits};
+ghost use Rattle.kn_wire.specs.Requests.{line_of, pin_at_line, is_space, is_word, is_hex};
 ghost use Rattle.kn_wire.specs.Wired.{request_of, request_or_fault};
 
-use crate::digits::are_digits;
 use crate::fault::WireFault;
+use crate::hex::is_hex;
 use crate::request::Request;
 use crate::split::{number_behind, split_number, split_word};
 use crate::word::Word;
@@ -142,7 +142,7 @@ fn read_remove(text: &[u8]) -> Option<Request<'_>>
 fn read_admin(text: &[u8]) -> Option<Request<'_>>
     ensures { option_map request_of result ≡ request_of_word Word.Admin (Some text.now) }
 {
-    if text.is_empty() || !are_digits(text) {
+    if text.is_empty() || !is_hex(text) {
         return None;
     }
     Some(Request::Admin { digits: text })
@@ -169,7 +169,7 @@ fn read_set_hex(text: &[u8]) -> Option<Request<'_>>
 {
     let (s, rest) = split_number(text)?;
     let (name, digits) = split_name(rest)?;
-    if !are_digits(digits) {
+    if !is_hex(digits) {
         return None;
     }
     Some(Request::SetHex { s, name, digits })

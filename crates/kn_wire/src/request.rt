@@ -7,9 +7,11 @@
 pub enum Request<'a> {
     /// Opens a session: `OPEN`.
     Start,
+    /// Ends a session.
     Close {
         s: u32,
     },
+    /// Pins a session to the newest version.
     Pin {
         s: u32,
     },
@@ -18,14 +20,17 @@ pub enum Request<'a> {
         s: u32,
         version: u32,
     },
+    /// Adds a private assertion, whose text is the block.
     Assert {
         s: u32,
         block: &'a [u8],
     },
+    /// Takes a private assertion away.
     Retract {
         s: u32,
         k: u32,
     },
+    /// Gives an attribute a value, which may be empty.
     Set {
         s: u32,
         name: &'a [u8],
@@ -37,18 +42,22 @@ pub enum Request<'a> {
         name: &'a [u8],
         digits: &'a [u8],
     },
+    /// Takes an attribute away.
     Unset {
         s: u32,
         name: &'a [u8],
     },
+    /// Names a requester.
     Auth {
         s: u32,
         principal: &'a [u8],
     },
+    /// Takes a requester away.
     Unauth {
         s: u32,
         principal: &'a [u8],
     },
+    /// Takes all attributes and requesters away. The session's version and private assertions stay.
     Clear {
         s: u32,
     },
@@ -79,6 +88,7 @@ pub enum Request<'a> {
     Admin {
         digits: &'a [u8],
     },
+    /// Adds a shared credential, whose text is the block.
     Add {
         block: &'a [u8],
     },
@@ -94,5 +104,6 @@ pub enum Request<'a> {
     Log {
         n: u32,
     },
+    /// Ends the connection.
     Bye,
 }

@@ -7,7 +7,7 @@ use Rattle.kn_base.specs.Decimal.{decimal_of}
 use Rattle.std.specs.Str.{bytes_eq}
 use Rattle.kn_words.specs.declared.gen_words.GenNumbers.{GenNumbers}
 use Rattle.kn_words.specs.Commands.{AreGenNumbers, AreNoGenNumbers, GenFor, IsNo}
-use Rattle.kn_words.proofs.Spelled.{same_word}
+use Rattle.kn_words.proofs.CommandWords.{same_word}
 
 three_words : (words : List (List ℕ)) (first second third : List ℕ) → length words ≡ 3 → first ≡ get_or words 0 first
     → second ≡ get_or words 1 second → third ≡ get_or words 2 third → words ≡ first ∷ second ∷ third ∷ []

@@ -1,5 +1,5 @@
-pub mod Spelled
-pub mod Apart
+pub mod CommandWords
+pub mod WordSplits
 pub mod GenWords
 pub mod ClapLaws
 pub mod Texts

@@ -24,8 +24,11 @@ impl<'a> Model for AskFiles<'a> {
 /// Which file of `check`.
 #[derive(Clone, Copy, PartialEq, Eq)]
 pub enum Source {
+    /// The policy file, whose assertions are loaded first.
     Policy,
+    /// The requests that are played.
     Script,
+    /// The `VALUE` reply whose proof is checked.
     Reply,
 }
 

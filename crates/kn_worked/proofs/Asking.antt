@@ -6,7 +6,7 @@ use Rattle.kn_meaning.specs.Proofs.{IsProof}
 use Rattle.kn_wire.specs.Requests.{Open, Auth, Query}
 use Rattle.kn_reply.specs.Replies.{Done, Started, Value}
 use Rattle.kn_daemon.specs.Shapes.{shape_of}
-use Rattle.kn_daemon.specs.Daemon.{State, first_state, changed}
+use Rattle.kn_daemon.specs.Daemon.{State, first_state, state_after}
 use Rattle.kn_daemon.specs.Linearized.{Exchange, requests_in}
 use Rattle.kn_worked.specs.Connections.{policy_history, AliceIsAnswered}
 use Rattle.kn_worked.proofs.Levels.{two_values, policy_row, alice_level, alice_proof, alice_session, alice_question}
@@ -14,10 +14,10 @@ use Rattle.kn_worked.proofs.Levels.{policy_valid}
 use Rattle.kn_worked.proofs.Turns.{turns_stand, all_answered}
 
 abbrev pub after_open : State
-after_open = changed policy_history first_state (shape_of Open)
+after_open = state_after policy_history first_state (shape_of Open)
 
 abbrev pub after_auth : State
-after_auth = changed policy_history after_open (shape_of (Auth 1 (codes "alice")))
+after_auth = state_after policy_history after_open (shape_of (Auth 1 (codes "alice")))
 
 abbrev alice_exchanges : List Exchange
 alice_exchanges =
@@ -50,7 +50,7 @@ alice_is_answered g caller = record {
             answer = record {
               level = 1;
               rows = policy_row ∷ [];
-              told = refl;
+              exact = refl;
               proved = subst (λ (e : Equations). IsProof e (policy_row ∷ []) 1) (sym alice_question) alice_proof;
               least = subst (λ (e : Equations). IsPolicyLevel e 1) (sym alice_question) alice_level;
             };

@@ -10,7 +10,7 @@ use Rattle.kn_reply.specs.declared.refusal.Refusal.{Refusal}
 use Rattle.kn_reply.specs.declared.refusal.Refusal.TheVariants as R
 use Rattle.kn_reply.specs.Replies.{Done, Started, Number, Batched, No}
 use Rattle.kn_daemon.specs.Shapes.{shape_of}
-use Rattle.kn_daemon.specs.Daemon.{Grounds, State, changed, found_item, refusal_from, placed_refusal}
+use Rattle.kn_daemon.specs.Daemon.{DaemonConfig, State, state_after, found_item, refusal_from, placed_refusal}
 use Rattle.kn_daemon.specs.Linearized.{Exchange, requests_in}
 use Rattle.kn_worked.specs.Texts.{credential_text, credential_assertion}
 use Rattle.kn_worked.specs.Connections.{policy_history, batched_history, BatchIsRefused, BatchIsMade}
@@ -23,13 +23,13 @@ abbrev pub block : List ℕ → List ℕ
 block id = codes "ADD 37\n" ++ credential_text ++ codes "\nDROP a" ++ id ++ codes "\n"
 
 after_pin : State
-after_pin = changed policy_history after_admin (shape_of (Pin 1))
+after_pin = state_after policy_history after_admin (shape_of (Pin 1))
 
 after_later_pin : ℕ → State
-after_later_pin caller = changed (batched_history caller) after_admin (shape_of (Pin 1))
+after_later_pin caller = state_after (batched_history caller) after_admin (shape_of (Pin 1))
 
 -- each item of the block is admitted
-pub items_admitted : (g : Grounds) (k : ℕ) → g.verdict credential_text credential_assertion ≡ 0
+pub items_admitted : (g : DaemonConfig) (k : ℕ) → g.verdict credential_text credential_assertion ≡ 0
     → refusal_from g 1 (AddText credential_text ∷ DropId k ∷ []) ≡ None
 items_admitted g k verdict =
     ap (λ (o : Option ItemRefusal). found_item 1 o (refusal_from g 2 (DropId k ∷ [])))
@@ -107,7 +107,7 @@ batch_is_made g caller secret verdict = record {
           answered = (
             AddText credential_text ∷ DropId 1 ∷ [],
             refl,
-            record { before = policy_history; ends = refl; accepted = rw credential_valid refl; told = refl },
+            record { before = policy_history; ends = refl; accepted = rw credential_valid refl; exact = refl },
           );
           next = refl;
         },

@@ -25,9 +25,9 @@ use Rattle.kn_wire.specs.Requests.{Open, Assert, Auth, Critical as ForCritical}
 use Rattle.kn_reply.specs.Replies.{Done, Started, PrivateAdded, Critical}
 use Rattle.kn_daemon.specs.Shapes.{shape_of}
 use Rattle.kn_daemon.specs.Daemon.{State, part_by, asked_of, session_parts, refusal_of_nodes, refusal_of_call}
-use Rattle.kn_daemon.specs.Daemon.{first_state, changed}
+use Rattle.kn_daemon.specs.Daemon.{first_state, state_after}
 use Rattle.kn_daemon.specs.Linearized.{Exchange, requests_in}
-use Rattle.kn_daemon.proofs.Told.{one-level}
+use Rattle.kn_daemon.proofs.LevelReplies.{one-level}
 use Rattle.kn_worked.specs.Texts.{policy_assertion, credential_text, credential_assertion}
 use Rattle.kn_worked.specs.Connections.{policy_history, doubled_history, BothAreCritical, NeitherIsCritical}
 use Rattle.kn_worked.proofs.Readings.{policy_reading, credential_reading}
@@ -111,10 +111,10 @@ abbrev opened_session : Session
 opened_session = started_session 1 policy_history
 
 after_assert : State
-after_assert = changed policy_history after_open (shape_of (Assert 1 credential_text))
+after_assert = state_after policy_history after_open (shape_of (Assert 1 credential_text))
 
 after_auth : State
-after_auth = changed policy_history after_assert (shape_of (Auth 1 (codes "bob")))
+after_auth = state_after policy_history after_assert (shape_of (Auth 1 (codes "bob")))
 
 abbrev both_exchanges : List Exchange
 both_exchanges =
@@ -161,7 +161,7 @@ both_are_critical g caller = record {
               answer = record {
                 level = 1;
                 ids = Shared 1 ∷ Private 1 ∷ [];
-                told = refl;
+                exact = refl;
                 least =
                     subst (λ parts. IsPolicyLevel (equations_over bob_asked parts) 1)
                     (sym own_session_parts) both_level;
@@ -269,10 +269,10 @@ neither_critical = ([], ([], refl, inr (second, refl)), inr (first, refl))
     second c = not_critical (Shared 2) (policy_part 1 ∷ []) (left 1) c c.least_without
 
 after_double : State
-after_double = changed doubled_history first_state (shape_of Open)
+after_double = state_after doubled_history first_state (shape_of Open)
 
 after_alice : State
-after_alice = changed doubled_history after_double (shape_of (Auth 1 (codes "alice")))
+after_alice = state_after doubled_history after_double (shape_of (Auth 1 (codes "alice")))
 
 abbrev neither_exchanges : List Exchange
 neither_exchanges =
@@ -307,7 +307,7 @@ neither_is_critical g caller = record {
             answer = record {
               level = 1;
               ids = [];
-              told = refl;
+              exact = refl;
               least =
                   subst (λ parts. IsPolicyLevel (equations_over alice_asked parts) 1)
                   (sym doubled_session_parts) doubled_level;

@@ -3,10 +3,10 @@ pub mod Readings
 pub mod Levels
 pub mod Asking
 pub mod Admin
-pub mod Adding
+pub mod AddingConnection
 pub mod Batches
-pub mod Replacing
-pub mod Looks
-pub mod Only
+pub mod ReplacingConnection
+pub mod LookConnections
+pub mod NothingElse
 pub mod Standing
 pub mod Criticals

@@ -1,13 +1,13 @@
 -- What the texts of the worked examples state.
 use Rattle.std.proofs.Common.{◌≡◌, ℕ, false, List, [], ◌∷◌, Some, None, Result, Ok, refl, ap, ◌∙◌, codes, length, arith}
 use Rattle.std.specs.Prelude.{nat_lt}
-use Rattle.kn_lex.specs.Cutting.{Seen, start}
+use Rattle.kn_lex.specs.Cutting.{TokenView, start}
 use Rattle.kn_lex.specs.Literal.{value_behind}
 use Rattle.kn_lex.specs.Computed.{tokens_or_fault}
-use Rattle.kn_lex.specs.Scanning.{plain_piece, white_len, colon_len, zero_place, quote_len}
+use Rattle.kn_lex.specs.Scanning.{plain_lexeme, white_len, colon_len, zero_place, quote_len}
 use Rattle.kn_lex.specs.declared.token.Sort.TheVariants.{Label, Text}
-use Rattle.kn_lex.specs.declared.piece.Piece.{Piece}
-use Rattle.kn_lex.specs.declared.piece.Piece.TheVariants.{White, Token}
+use Rattle.kn_lex.specs.declared.lexeme.Lexeme.{Lexeme}
+use Rattle.kn_lex.specs.declared.lexeme.Lexeme.TheVariants.{White, Token}
 use Rattle.kn_fields.specs.Fields.{field_of, fields_of, field_with}
 use Rattle.kn_fields.specs.Scanning.{fault_in, first_place, fault_at, fault_without, version_place, constant_place}
 use Rattle.kn_fields.specs.Scanning.{departure, goes_deep}
@@ -32,7 +32,7 @@ use Rattle.kn_generate.proofs.Readings.{of_field, fields_told, one_spells}
 use Rattle.kn_worked.specs.Texts.{policy_text, policy_assertion, credential_text, credential_assertion}
 
 abbrev Cuts : Type 0
-Cuts = List (Piece × List ℕ)
+Cuts = List (Lexeme × List ℕ)
 
 -- a field that is read leaves what the others state
 field_read : {X : Type 0} (r : Result X ReadFault) (x : X) (make : X → Stated) (rest : Stated → Result Stated ReadFault)
@@ -41,7 +41,7 @@ field_read : {X : Type 0} (r : Result X ReadFault) (x : X) (make : X → Stated)
 field_read r x make rest last e = ap (λ r. and_then (and_then (and_then r (λ x. Ok (make x))) rest) last) e
 
 -- a text of these tokens, whose fields state these parts
-reads : (text : List ℕ) (tokens : List Seen) (assertion : Assertion) → nat_lt 16384 (length text) ≡ false
+reads : (text : List ℕ) (tokens : List TokenView) (assertion : Assertion) → nat_lt 16384 (length text) ≡ false
     → tokens_or_fault text ≡ Ok tokens → fault_in tokens ≡ None
     → reading_with text tokens ≡ Ok assertion → reading_of text ≡ Ok assertion
 unfolding reading_of
@@ -60,22 +60,22 @@ abbrev credential_cuts : Cuts
 credential_cuts = two_fields (codes "\"alice\"") (codes "\"bob\"")
 
 policy_cut : AreCuts start policy_cuts
-unfolding plain_piece white_len colon_len zero_place quote_len
+unfolding plain_lexeme white_len colon_len zero_place quote_len
 policy_cut = (
-  record { some = refl; told = refl; cut = refl; clean = λ at. refl },
+  record { some = refl; exact = refl; cut = refl; clean = λ at. refl },
   (
-    record { some = refl; told = refl; cut = refl; clean = λ at. refl },
+    record { some = refl; exact = refl; cut = refl; clean = λ at. refl },
     (
-      record { some = refl; told = refl; cut = refl; clean = λ at. refl },
+      record { some = refl; exact = refl; cut = refl; clean = λ at. refl },
       (
-        record { some = refl; told = refl; cut = refl; clean = λ at. refl },
+        record { some = refl; exact = refl; cut = refl; clean = λ at. refl },
         (
-          record { some = refl; told = refl; cut = refl; clean = λ at. refl },
+          record { some = refl; exact = refl; cut = refl; clean = λ at. refl },
           (
-            record { some = refl; told = refl; cut = refl; clean = λ at. refl },
+            record { some = refl; exact = refl; cut = refl; clean = λ at. refl },
             (
-              record { some = refl; told = refl; cut = refl; clean = λ at. refl },
-              (record { some = refl; told = refl; cut = refl; clean = λ at. refl }, tt),
+              record { some = refl; exact = refl; cut = refl; clean = λ at. refl },
+              (record { some = refl; exact = refl; cut = refl; clean = λ at. refl }, tt),
             ),
           ),
         ),
@@ -85,22 +85,22 @@ policy_cut = (
 )
 
 credential_cut : AreCuts start credential_cuts
-unfolding plain_piece white_len colon_len zero_place quote_len
+unfolding plain_lexeme white_len colon_len zero_place quote_len
 credential_cut = (
-  record { some = refl; told = refl; cut = refl; clean = λ at. refl },
+  record { some = refl; exact = refl; cut = refl; clean = λ at. refl },
   (
-    record { some = refl; told = refl; cut = refl; clean = λ at. refl },
+    record { some = refl; exact = refl; cut = refl; clean = λ at. refl },
     (
-      record { some = refl; told = refl; cut = refl; clean = λ at. refl },
+      record { some = refl; exact = refl; cut = refl; clean = λ at. refl },
       (
-        record { some = refl; told = refl; cut = refl; clean = λ at. refl },
+        record { some = refl; exact = refl; cut = refl; clean = λ at. refl },
         (
-          record { some = refl; told = refl; cut = refl; clean = λ at. refl },
+          record { some = refl; exact = refl; cut = refl; clean = λ at. refl },
           (
-            record { some = refl; told = refl; cut = refl; clean = λ at. refl },
+            record { some = refl; exact = refl; cut = refl; clean = λ at. refl },
             (
-              record { some = refl; told = refl; cut = refl; clean = λ at. refl },
-              (record { some = refl; told = refl; cut = refl; clean = λ at. refl }, tt),
+              record { some = refl; exact = refl; cut = refl; clean = λ at. refl },
+              (record { some = refl; exact = refl; cut = refl; clean = λ at. refl }, tt),
             ),
           ),
         ),
@@ -109,10 +109,10 @@ credential_cut = (
   ),
 )
 
-abbrev policy_tokens : List Seen
+abbrev policy_tokens : List TokenView
 policy_tokens = tokens_at start 0 policy_cuts
 
-abbrev credential_tokens : List Seen
+abbrev credential_tokens : List TokenView
 credential_tokens = tokens_at start 0 credential_cuts
 
 no_faults_in : (fault_in policy_tokens ≡ None) × (fault_in credential_tokens ≡ None)

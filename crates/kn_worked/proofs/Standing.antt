@@ -15,7 +15,7 @@ use Rattle.kn_wire.specs.Requests.{Open, Admin, Auth, Unauth, Add, Drop, Query, 
 use Rattle.kn_reply.specs.declared.refusal.Refusal.TheVariants as R
 use Rattle.kn_reply.specs.Replies.{Done, Started, Added, Value, Number, News, No}
 use Rattle.kn_daemon.specs.Shapes.{shape_of}
-use Rattle.kn_daemon.specs.Daemon.{State, part_by, asked_of, equations_of, changed}
+use Rattle.kn_daemon.specs.Daemon.{State, part_by, asked_of, equations_of, state_after}
 use Rattle.kn_daemon.specs.Linearized.{Exchange, requests_in}
 use Rattle.kn_worked.specs.Texts.{credential_text}
 use Rattle.kn_worked.specs.Connections.{policy_history, longer_history, shorter_history, StandingQueryIsTold}
@@ -31,19 +31,19 @@ use Rattle.kn_worked.proofs.Turns.{turns_stand, all_answered}
 -- The connection.
 
 after_auth : State
-after_auth = changed policy_history after_admin (shape_of (Auth 1 (codes "bob")))
+after_auth = state_after policy_history after_admin (shape_of (Auth 1 (codes "bob")))
 
 after_watch : State
-after_watch = changed policy_history after_auth (shape_of (Watch 1 (codes "no,yes")))
+after_watch = state_after policy_history after_auth (shape_of (Watch 1 (codes "no,yes")))
 
 after_news : ℕ → State
-after_news caller = changed (longer_history caller) after_watch (shape_of (ForNews 1))
+after_news caller = state_after (longer_history caller) after_watch (shape_of (ForNews 1))
 
 after_later_news : ℕ → State
-after_later_news caller = changed (shorter_history caller) (after_news caller) (shape_of (ForNews 1))
+after_later_news caller = state_after (shorter_history caller) (after_news caller) (shape_of (ForNews 1))
 
 after_unwatch : ℕ → State
-after_unwatch caller = changed (shorter_history caller) (after_later_news caller) (shape_of (Unwatch 1))
+after_unwatch caller = state_after (shorter_history caller) (after_later_news caller) (shape_of (Unwatch 1))
 
 -- what is kept
 abbrev kept_query : StandingQuery
@@ -67,9 +67,9 @@ standing_exchanges =
     ∷ record { request = Unwatch 1; reply = Done; place = 3 }
     ∷ record { request = ForNews 1; reply = No R.Unknown; place = 3 } ∷ []
 
-pub standing_query_is_told : StandingQueryIsTold
+pub standing_query_is_reported : StandingQueryIsTold
 unfolding digits after_auth after_watch after_news after_later_news after_unwatch
-standing_query_is_told g caller secret verdict = record {
+standing_query_is_reported g caller secret verdict = record {
   exchanges = standing_exchanges;
   rest = [];
   last = after_unwatch caller;
@@ -98,7 +98,7 @@ standing_query_is_told g caller secret verdict = record {
               named = refl;
               answer = record {
                 level = 0;
-                told = refl;
+                exact = refl;
                 least = subst (λ (e : Equations). IsPolicyLevel e 0) (sym bob_question) bob_level;
               };
             };
@@ -126,7 +126,7 @@ standing_query_is_told g caller secret verdict = record {
                   standing = refl;
                   news = record {
                     level = 1;
-                    told = refl;
+                    exact = refl;
                     least = subst (λ (e : Equations). IsPolicyLevel e 1) (sym (later_question caller)) longer_level;
                   };
                 };
@@ -150,7 +150,7 @@ standing_query_is_told g caller secret verdict = record {
                       standing = refl;
                       news = record {
                         level = 0;
-                        told = refl;
+                        exact = refl;
                         least =
                             subst (λ (e : Equations). IsPolicyLevel e 0) (sym (shorter_question caller)) shorter_level;
                       };
@@ -169,7 +169,7 @@ standing_query_is_told g caller secret verdict = record {
                         answer = record {
                           level = 0;
                           rows = [];
-                          told = refl;
+                          exact = refl;
                           proved = subst (λ (e : Equations). IsProof e [] 0) (sym bob_question) bob_proof;
                           least = subst (λ (e : Equations). IsPolicyLevel e 0) (sym bob_question) bob_level;
                         };
@@ -256,16 +256,16 @@ none_question =
     ((part_by Shared 1 (result_ok r) ++ []) ++ [])) policy_reading
 
 after_alice : State
-after_alice = changed policy_history after_open (shape_of (Auth 1 (codes "alice")))
+after_alice = state_after policy_history after_open (shape_of (Auth 1 (codes "alice")))
 
 after_kept : State
-after_kept = changed policy_history after_alice (shape_of (Watch 1 (codes "no,yes")))
+after_kept = state_after policy_history after_alice (shape_of (Watch 1 (codes "no,yes")))
 
 after_left : State
-after_left = changed policy_history after_kept (shape_of (Unauth 1 (codes "alice")))
+after_left = state_after policy_history after_kept (shape_of (Unauth 1 (codes "alice")))
 
 after_told : State
-after_told = changed policy_history after_left (shape_of (ForNews 1))
+after_told = state_after policy_history after_left (shape_of (ForNews 1))
 
 abbrev alice_query : StandingQuery
 alice_query = query_with two_values alice_session
@@ -303,7 +303,7 @@ requester_is_kept g caller = record {
             named = refl;
             answer = record {
               level = 1;
-              told = refl;
+              exact = refl;
               least = subst (λ (e : Equations). IsPolicyLevel e 1) (sym alice_question) alice_level;
             };
           };
@@ -323,7 +323,7 @@ requester_is_kept g caller = record {
                 standing = refl;
                 news = record {
                   level = 1;
-                  told = refl;
+                  exact = refl;
                   least = subst (λ (e : Equations). IsPolicyLevel e 1) (sym alice_question) alice_level;
                 };
               };
@@ -341,7 +341,7 @@ requester_is_kept g caller = record {
                   answer = record {
                     level = 0;
                     rows = [];
-                    told = refl;
+                    exact = refl;
                     proved = subst (λ (e : Equations). IsProof e [] 0) (sym none_question) none_proof;
                     least = subst (λ (e : Equations). IsPolicyLevel e 0) (sym none_question) none_level;
                   };

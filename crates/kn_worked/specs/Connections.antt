@@ -8,7 +8,7 @@ use Rattle.kn_history.specs.Batches.{batch_by}
 use Rattle.kn_reply.specs.Replies.{Reply, Done, Started, Number, PrivateAdded, Added, Value, Batched, PinnedAt, Log}
 use Rattle.kn_reply.specs.Replies.{News, Critical, No, NoMemory}
 use Rattle.kn_daemon.specs.declared.ended.Ended.TheVariants as E
-use Rattle.kn_daemon.specs.Daemon.{Grounds}
+use Rattle.kn_daemon.specs.Daemon.{DaemonConfig}
 use Rattle.kn_daemon.specs.Served.{IsServed}
 use Rattle.kn_worked.specs.Texts.{policy_text, policy_assertion, credential_text, credential_assertion}
 
@@ -25,7 +25,7 @@ alice_may = codes "OK 1 1\nOK\nVALUE 1 yes 1 1\nROW 1 a1 \"POLICY\"\nEND\n"
 
 -- alice may, by the policy's assertion
 abbrev pub AliceIsAnswered : Type 0
-AliceIsAnswered = (g : Grounds) (caller : ℕ)
+AliceIsAnswered = (g : DaemonConfig) (caller : ℕ)
     → IsServed g alice_asks alice_may E.Done true policy_history 1 1 caller (1 ∷ [])
 
 abbrev pub is_no_memory : Reply → Bool
@@ -46,7 +46,7 @@ is_no_memory NoMemory = true
 -- Nothing else is written for these bytes, where the caller had seen the policy file's history, which is all that there
 -- is, and no reply is `NOMEM`.
 abbrev pub AliceIsAnsweredSo : Type 0
-AliceIsAnsweredSo = (g : Grounds) (written : List ℕ) (start end caller : ℕ) (stops : List ℕ)
+AliceIsAnsweredSo = (g : DaemonConfig) (written : List ℕ) (start end caller : ℕ) (stops : List ℕ)
     (s : IsServed g alice_asks written E.Done true policy_history start end caller stops) → 1 ≤ start
     → list_any (λ e. is_no_memory e.reply) s.exchanges ≡ false → written ≡ alice_may
 
@@ -67,7 +67,7 @@ bob_may_then =
 
 -- bob may only where the session is pinned to the version with the credential that was added meanwhile
 abbrev pub BobIsAnswered : Type 0
-BobIsAnswered = (g : Grounds) (caller : ℕ) → g.secret ≡ codes "s3cret"
+BobIsAnswered = (g : DaemonConfig) (caller : ℕ) → g.secret ≡ codes "s3cret"
     → g.verdict credential_text credential_assertion ≡ 0
     → IsServed g bob_asks bob_may_then E.Done true (longer_history caller) 1 2 caller (1 ∷ 2 ∷ 2 ∷ [])
 
@@ -83,14 +83,14 @@ batch_removing id = codes "BATCH 53\nADD 37\n" ++ credential_text ++ codes "\nDR
 abbrev pub refused_batch_asks : List ℕ
 refused_batch_asks = admin_opens ++ batch_removing (codes "9") ++ codes "PIN 1\n"
 
-abbrev pub refused_batch_told : List ℕ
-refused_batch_told = codes "OK 1 1\nOK\nNO 17 item 2 12 unknown\nOK 1\n"
+abbrev pub refused_batch_replies : List ℕ
+refused_batch_replies = codes "OK 1 1\nOK\nNO 17 item 2 12 unknown\nOK 1\n"
 
 -- the history refuses the second item of a batch, and then the first is not made either
 abbrev pub BatchIsRefused : Type 0
-BatchIsRefused = (g : Grounds) (caller : ℕ) → g.secret ≡ codes "s3cret"
+BatchIsRefused = (g : DaemonConfig) (caller : ℕ) → g.secret ≡ codes "s3cret"
     → g.verdict credential_text credential_assertion ≡ 0
-    → IsServed g refused_batch_asks refused_batch_told E.Done true policy_history 1 1 caller (1 ∷ 1 ∷ 1 ∷ [])
+    → IsServed g refused_batch_asks refused_batch_replies E.Done true policy_history 1 1 caller (1 ∷ 1 ∷ 1 ∷ [])
 
 -- the history with a batch of this caller that adds the credential and removes the policy's assertion
 abbrev pub batched_history : ℕ → List Update
@@ -99,14 +99,14 @@ batched_history caller = policy_history ++ batch_by caller 2 (Add credential_tex
 abbrev pub batch_asks : List ℕ
 batch_asks = admin_opens ++ batch_removing (codes "1") ++ codes "DROP a1\nPIN 1\n"
 
-abbrev pub batch_told : List ℕ
-batch_told = codes "OK 1 1\nOK\nOK a2 1 2\nNO 12 unknown\nOK 2\n"
+abbrev pub batch_replies : List ℕ
+batch_replies = codes "OK 1 1\nOK\nOK a2 1 2\nNO 12 unknown\nOK 2\n"
 
 -- both items of a batch are made by one update
 abbrev pub BatchIsMade : Type 0
-BatchIsMade = (g : Grounds) (caller : ℕ) → g.secret ≡ codes "s3cret"
+BatchIsMade = (g : DaemonConfig) (caller : ℕ) → g.secret ≡ codes "s3cret"
     → g.verdict credential_text credential_assertion ≡ 0
-    → IsServed g batch_asks batch_told E.Done true (batched_history caller) 1 2 caller (1 ∷ 2 ∷ 2 ∷ 2 ∷ [])
+    → IsServed g batch_asks batch_replies E.Done true (batched_history caller) 1 2 caller (1 ∷ 2 ∷ 2 ∷ 2 ∷ [])
 
 -- an administrator opens a session and adds the credential
 abbrev pub admin_adds : List ℕ
@@ -115,26 +115,26 @@ admin_adds = admin_opens ++ codes "ADD 37\n" ++ credential_text ++ codes "\n"
 abbrev pub version_asks : List ℕ
 version_asks = admin_adds ++ codes "PIN 1 1\nPIN 1 3\n"
 
-abbrev pub version_told : List ℕ
-version_told = codes "OK 1 1\nOK\nOK a2 2\nOK 1 2\nNO 18 retained 2\n"
+abbrev pub version_replies : List ℕ
+version_replies = codes "OK 1 1\nOK\nOK a2 2\nOK 1 2\nNO 18 retained 2\n"
 
 -- a session is pinned to the version before the newest one, and not to one that isn't there
 abbrev pub VersionIsPinned : Type 0
-VersionIsPinned = (g : Grounds) (caller : ℕ) → g.secret ≡ codes "s3cret"
+VersionIsPinned = (g : DaemonConfig) (caller : ℕ) → g.secret ≡ codes "s3cret"
     → g.verdict credential_text credential_assertion ≡ 0
-    → IsServed g version_asks version_told E.Done true (longer_history caller) 1 2 caller (1 ∷ 2 ∷ 2 ∷ 2 ∷ [])
+    → IsServed g version_asks version_replies E.Done true (longer_history caller) 1 2 caller (1 ∷ 2 ∷ 2 ∷ 2 ∷ [])
 
 abbrev pub log_asks : List ℕ
 log_asks = admin_adds ++ codes "LOG 1\nLOG 3\n"
 
-abbrev pub log_told : List ℕ
-log_told =
+abbrev pub log_replies : List ℕ
+log_replies =
     codes "OK 1 1\nOK\nOK a2 2\nLOG 1 1 2\nUPDATE 0 1\nADD 37\n" ++ credential_text ++ codes "\nEND\nNO 19 ahead 2\n"
 
 -- the update behind the first one is handed on with its caller's number, here 0; a third one isn't there
 abbrev pub UpdateIsHandedOn : Type 0
-UpdateIsHandedOn = (g : Grounds) → g.secret ≡ codes "s3cret" → g.verdict credential_text credential_assertion ≡ 0
-    → IsServed g log_asks log_told E.Done true (longer_history 0) 1 2 0 (1 ∷ 2 ∷ 2 ∷ 2 ∷ [])
+UpdateIsHandedOn = (g : DaemonConfig) → g.secret ≡ codes "s3cret" → g.verdict credential_text credential_assertion ≡ 0
+    → IsServed g log_asks log_replies E.Done true (longer_history 0) 1 2 0 (1 ∷ 2 ∷ 2 ∷ 2 ∷ [])
 
 -- the history with the credential, and then without the policy's assertion
 abbrev pub shorter_history : ℕ → List Update
@@ -147,41 +147,41 @@ standing_asks =
     codes "OPEN\nADMIN 733363726574\nAUTH 1 bob\nWATCH 1 no,yes\nADD 37\n" ++ credential_text
     ++ codes "\nNEWS 1\nDROP a1\nNEWS 1\nQUERY 1 no,yes\nUNWATCH 1\nNEWS 1\n"
 
-abbrev pub standing_told : List ℕ
-standing_told =
+abbrev pub standing_replies : List ℕ
+standing_replies =
     codes "OK 1 1\nOK\nOK\nNEWS 0 no 1\nOK a2 2\nNEWS 1 yes 2\nOK 3\nNEWS 0 no 3\n"
     ++ codes "VALUE 0 no 1 0\nEND\nOK\nNO 12 unknown\n"
 
--- The standing query is told over the version of each NEWS, while the session stays pinned to its own. There is none
--- behind UNWATCH.
+-- The standing query is answered over the version of each NEWS, while the session stays pinned to its own. There is
+-- none behind UNWATCH.
 abbrev pub StandingQueryIsTold : Type 0
-StandingQueryIsTold = (g : Grounds) (caller : ℕ) → g.secret ≡ codes "s3cret"
+StandingQueryIsTold = (g : DaemonConfig) (caller : ℕ) → g.secret ≡ codes "s3cret"
     → g.verdict credential_text credential_assertion ≡ 0
-    → IsServed g standing_asks standing_told E.Done true (shorter_history caller) 1 3 caller (1 ∷ 2 ∷ 2 ∷ 3 ∷ 3 ∷ [])
+    → IsServed g standing_asks standing_replies E.Done true (shorter_history caller) 1 3 caller (1 ∷ 2 ∷ 2 ∷ 3 ∷ 3 ∷ [])
 
 -- a session keeps a query for alice, who then leaves it
 abbrev pub kept_asks : List ℕ
 kept_asks = codes "OPEN\nAUTH 1 alice\nWATCH 1 no,yes\nUNAUTH 1 alice\nNEWS 1\nQUERY 1 no,yes\n"
 
-abbrev pub kept_told : List ℕ
-kept_told = codes "OK 1 1\nOK\nNEWS 1 yes 1\nOK\nNEWS 1 yes 1\nVALUE 0 no 1 0\nEND\n"
+abbrev pub kept_replies : List ℕ
+kept_replies = codes "OK 1 1\nOK\nNEWS 1 yes 1\nOK\nNEWS 1 yes 1\nVALUE 0 no 1 0\nEND\n"
 
 -- alice still asks in the standing query
 abbrev pub RequesterIsKept : Type 0
-RequesterIsKept = (g : Grounds) (caller : ℕ)
-    → IsServed g kept_asks kept_told E.Done true policy_history 1 1 caller (1 ∷ 1 ∷ [])
+RequesterIsKept = (g : DaemonConfig) (caller : ℕ)
+    → IsServed g kept_asks kept_replies E.Done true policy_history 1 1 caller (1 ∷ 1 ∷ [])
 
 -- a session asserts the credential itself, and asks for bob what is critical
 abbrev pub critical_asks : List ℕ
 critical_asks = codes "OPEN\nASSERT 1 37\n" ++ credential_text ++ codes "\nAUTH 1 bob\nCRITICAL 1 no,yes\n"
 
-abbrev pub critical_told : List ℕ
-critical_told = codes "OK 1 1\nOK p1\nOK\nCRITICAL 1 2\nNEED a1\nNEED p1\nEND\n"
+abbrev pub critical_replies : List ℕ
+critical_replies = codes "OK 1 1\nOK p1\nOK\nCRITICAL 1 2\nNEED a1\nNEED p1\nEND\n"
 
 -- bob needs the policy's assertion and the session's own
 abbrev pub BothAreCritical : Type 0
-BothAreCritical = (g : Grounds) (caller : ℕ)
-    → IsServed g critical_asks critical_told E.Done true policy_history 1 1 caller (1 ∷ [])
+BothAreCritical = (g : DaemonConfig) (caller : ℕ)
+    → IsServed g critical_asks critical_replies E.Done true policy_history 1 1 caller (1 ∷ [])
 
 -- the history behind a policy file with the same assertion twice
 abbrev pub doubled_history : List Update
@@ -190,13 +190,13 @@ doubled_history = loaded_history (policy_text ∷ policy_text ∷ [])
 abbrev pub doubled_asks : List ℕ
 doubled_asks = codes "OPEN\nAUTH 1 alice\nCRITICAL 1 no,yes\n"
 
-abbrev pub doubled_told : List ℕ
-doubled_told = codes "OK 1 2\nOK\nCRITICAL 1 0\nEND\n"
+abbrev pub doubled_replies : List ℕ
+doubled_replies = codes "OK 1 2\nOK\nCRITICAL 1 0\nEND\n"
 
 -- alice needs neither of the two
 abbrev pub NeitherIsCritical : Type 0
-NeitherIsCritical = (g : Grounds) (caller : ℕ)
-    → IsServed g doubled_asks doubled_told E.Done true doubled_history 2 2 caller (2 ∷ [])
+NeitherIsCritical = (g : DaemonConfig) (caller : ℕ)
+    → IsServed g doubled_asks doubled_replies E.Done true doubled_history 2 2 caller (2 ∷ [])
 
 -- the history with two batches of the caller 0: the credential comes for the policy's assertion, and then the policy's
 -- text again for the credential
@@ -211,8 +211,8 @@ replacing_asks =
     ++ codes "WATCH 1 no,yes\nBATCH 56\nADD 40\n" ++ policy_text
     ++ codes "\nDROP a2\n\nNEWS 1\nPIN 1 1\nQUERY 1 no,yes\nLOG 1\nBYE\n"
 
-abbrev pub replacing_told : List ℕ
-replacing_told =
+abbrev pub replacing_replies : List ℕ
+replacing_replies =
     codes "OK\nOK a2 1 2\nOK 1 2\nOK\nNEWS 0 no 2\nOK a3 1 3\nNEWS 1 yes 3\nOK 1 3\n"
     ++ codes "VALUE 1 yes 1 1\nROW 1 a1 \"POLICY\"\nEND\nLOG 1 2 3\nUPDATE 0 2\nADD 37\n" ++ credential_text
     ++ codes "\nDROP a1\nUPDATE 0 2\nADD 40\n" ++ policy_text ++ codes "\nDROP a2\nEND\nOK\n"
@@ -220,6 +220,6 @@ replacing_told =
 -- Alice loses what she had by the first batch and has it again by the second. Version 1 has it by the assertion that
 -- was removed. The connection ends with BYE, whether or not the input has ended too.
 abbrev pub BatchesAreSeen : Type 0
-BatchesAreSeen = (g : Grounds) (is_over : Bool) → g.secret ≡ codes "s3cret"
+BatchesAreSeen = (g : DaemonConfig) (is_over : Bool) → g.secret ≡ codes "s3cret"
     → g.verdict credential_text credential_assertion ≡ 0 → g.verdict policy_text policy_assertion ≡ 0
-    → IsServed g replacing_asks replacing_told E.Done is_over replaced_history 1 3 0 (2 ∷ 2 ∷ 3 ∷ 3 ∷ 3 ∷ 3 ∷ [])
+    → IsServed g replacing_asks replacing_replies E.Done is_over replaced_history 1 3 0 (2 ∷ 2 ∷ 3 ∷ 3 ∷ 3 ∷ 3 ∷ [])

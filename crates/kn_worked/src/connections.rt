@@ -17,19 +17,19 @@ pub fn addition_counts_when_pinned()
     ensures { BobIsAnswered }
 {}
 
-/// A batch is one update of all its items, or none where the history refuses an item: the first such one is told.
+/// A batch is one update of all its items, or none where the history refuses an item: the first such one is named.
 pub fn batch_is_one_update()
     ensures refused { BatchIsRefused }
     ensures made { BatchIsMade }
 {}
 
-/// A session is pinned to an earlier version by its number. Where that version isn't there, the newest one is told.
+/// A session is pinned to an earlier version by its number. Where that version isn't there, the newest one is named.
 pub fn version_is_pinned()
     ensures { VersionIsPinned }
 {}
 
 /// The updates behind the first ones, by their number, are handed on. Where there are fewer, the newest version is
-/// told.
+/// named.
 pub fn update_is_handed_on()
     ensures { UpdateIsHandedOn }
 {}
@@ -40,15 +40,15 @@ pub fn batches_are_seen()
     ensures { BatchesAreSeen }
 {}
 
-/// A standing query is told over each newer version, and asks with what it was kept with.
-pub fn standing_query_is_told()
+/// A standing query is answered over each newer version, and asks with what it was kept with.
+pub fn standing_query_is_reported()
     ensures versions { StandingQueryIsTold }
     ensures kept { RequesterIsKept }
 {}
 
-/// The assertions without which the level would be lower are told, shared ones and a session's own. Where two say the
+/// The assertions without which the level would be lower are named, shared ones and a session's own. Where two say the
 /// same, neither is.
-pub fn critical_assertions_are_told()
+pub fn critical_assertions_are_reported()
     ensures both { BothAreCritical }
     ensures neither { NeitherIsCritical }
 {}

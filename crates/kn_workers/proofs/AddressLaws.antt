@@ -7,7 +7,7 @@ use Rattle.std.proofs.lemmas.List.Sums.{sum_by-cons}
 use Rattle.kn_outside.specs.Seen.{LinkSeen}
 use Rattle.kn_outside.specs.Faults.{Rose}
 use Rattle.kn_history.specs.declared.update.Update.{Update}
-use Rattle.kn_daemon.specs.Daemon.{Grounds}
+use Rattle.kn_daemon.specs.Daemon.{DaemonConfig}
 use Rattle.kn_registry.specs.Passes.{PassSeen}
 use Rattle.kn_workers.specs.declared.address.AddressEnding.TheVariants.{WorkMemory, DoorFailed, Served}
 use Rattle.kn_workers.specs.declared.binding.Binding.{Binding}
@@ -43,7 +43,7 @@ module _ {C R : Type 0} (door : R → DoorSeen (ServedSeen C)) where
   abbrev with_door : ℕ → Work C R → ℕ
   with_door faults work = min (faults + (door work.after).faults) (2 ^ 64 - 1)
 
-  module _ (link : C → LinkSeen) (g : Grounds) (start : ℕ) (history : List Update) where
+  module _ (link : C → LinkSeen) (g : DaemonConfig) (start : ℕ) (history : List Update) where
     -- a door that gave less than its quota raises the count
     faults_rise : (caller faults : ℕ) (works : List (Work C R)) → EachWorked door link g start history caller works
         → list_any less works ≡ true → min (faults + 1) (2 ^ 64 - 1) ≤ with_faults door faults (after_of works)
@@ -62,8 +62,7 @@ module _ {C R : Type 0} (door : R → DoorSeen (ServedSeen C)) where
             let rest = faults_stay (with_door faults work) (after_of works) in
             omega (arith, rose, rest)
         by false e again =
-            let later : list_any less works ≡ true =
-            subst (λ (b : Bool). b || list_any less works ≡ true) e some in
+            let later : list_any less works ≡ true = subst (λ (b : Bool). b || list_any less works ≡ true) e some in
             let rest = again later in
             omega (arith, rest)
 
@@ -81,8 +80,7 @@ module _ {C R : Type 0} (door : R → DoorSeen (ServedSeen C)) where
         by true e again =
             absurd (cc (subst (λ (b : Bool). b || list_any less works ≡ false) e none))
         by false e again =
-            let later : list_any less works ≡ false =
-            subst (λ (b : Bool). b || list_any less works ≡ false) e none in
+            let later : list_any less works ≡ false = subst (λ (b : Bool). b || list_any less works ≡ false) e none in
             let given : HasGiven false (door work.before) (door work.after) =
             subst (λ (b : Bool). HasGiven b (door work.before) (door work.after)) e each.0.failed in
             let all : (door work.after).given ≡ (door work.after).quota = given.0 in
@@ -97,7 +95,7 @@ module _ {C R : Type 0} (door : R → DoorSeen (ServedSeen C)) where
   map_length f [] = refl
   map_length f (x ∷ xs) = let rest = map_length f xs in omega (arith, rest)
 
-  module _ (link : C → LinkSeen) (g : Grounds) (v w : PassSeen) (doors doors' : List R) (end : ServeEnd)
+  module _ (link : C → LinkSeen) (g : DaemonConfig) (v w : PassSeen) (doors doors' : List R) (end : ServeEnd)
       (all : AllServed door link g v w doors doors' end) where
     -- as many doors as before
     pub doors_stay : length doors' ≡ length doors
@@ -138,7 +136,7 @@ module _ {C R : Type 0} (door : R → DoorSeen (ServedSeen C)) where
     faults_are : n'.faults ≡ with_faults door n.faults doors
     faults_are = ap (λ (x : NetSeen R). x.faults) behind
 
-    pub unserved : (link : C → LinkSeen) (g : Grounds) (past : List Update)
+    pub unserved : (link : C → LinkSeen) (g : DaemonConfig) (past : List Update)
         → AreBound door binding.quota binding.doors 0 doors → length doors ≡ binding.doors
         → ServesOver door link g past n n' binding WorkMemory
     unserved link g past bound count = record {
@@ -147,7 +145,7 @@ module _ {C R : Type 0} (door : R → DoorSeen (ServedSeen C)) where
       net = net_is;
     }
 
-    module _ (link : C → LinkSeen) (g : Grounds) (before : List R) (v w : PassSeen) (end : ServeEnd)
+    module _ (link : C → LinkSeen) (g : DaemonConfig) (before : List R) (v w : PassSeen) (end : ServeEnd)
         (root : v.number ≡ 0) (unsplit : v.splits ≡ 0) (bound : AreBound door binding.quota binding.doors 0 before)
         (count : length before ≡ binding.doors) (all : AllServed door link g v w before doors end) where
       are_served : AreServed door link g v.seen n n' binding end w.seen

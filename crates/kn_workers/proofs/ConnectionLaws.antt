@@ -4,13 +4,13 @@ use Rattle.std.proofs.Common.{Some, None, subst}
 use Rattle.std.specs.Prelude.{◌⊎◌, IfSome}
 use Rattle.std.proofs.Math.Seq.{drop-append_seam}
 use Rattle.kn_outside.specs.Seen.{LinkSeen}
-use Rattle.kn_outside.specs.Told.{more, before}
+use Rattle.kn_outside.specs.SpecifiedBytes.{more, before}
 use Rattle.kn_outside.specs.Faults.{Rose, raised}
 use Rattle.kn_history.specs.declared.update.Update.{Update}
 use Rattle.kn_history.specs.History.{is_valid_history}
 use Rattle.kn_daemon.specs.declared.ended.Ended.{Ended}
 use Rattle.kn_daemon.specs.declared.ended.Ended.TheVariants as E
-use Rattle.kn_daemon.specs.Daemon.{Grounds}
+use Rattle.kn_daemon.specs.Daemon.{DaemonConfig}
 use Rattle.kn_daemon.specs.Laws.{ServedLonger}
 use Rattle.kn_daemon.specs.Served.{IsServed}
 use Rattle.kn_registry.specs.Passes.{PassSeen, Moves}
@@ -60,7 +60,7 @@ pub stops_between : (v w : PassSeen) (more own : List Update) (stops : List ℕ)
     drop (length v.stops) w.stops ≡ stops
 stops_between v w more own stops moves = ap (drop (length v.stops)) moves.stops ∙ drop-append_seam v.stops stops
 
-module _ {C : Type 0} (seen : C → LinkSeen) (g : Grounds) (v w : PassSeen) (link link' : C) (ended : Ended)
+module _ {C : Type 0} (seen : C → LinkSeen) (g : DaemonConfig) (v w : PassSeen) (link link' : C) (ended : Ended)
     (caller from to : ℕ) (stops : List ℕ) where
   abbrev pub shown : ServedSeen C
   shown = record { link = link'; ended = ended; caller = caller; from = from; to = to; stops = stops }
@@ -130,7 +130,7 @@ module _ {C : Type 0} (seen : C → LinkSeen) (g : Grounds) (v w : PassSeen) (li
           (λ rest. IsOrderly (b ++ rest) → faults ≡ 0 → (ended ≡ E.Done) ⊎ (ended ≡ E.Memory))) (sym same) all
 
 -- how the call moved the pass, with where the turn was had as a served connection shows it
-pub moves_shown : (g : Grounds) (v w : PassSeen) (l l' : LinkSeen) (ended : Ended) (stops : List ℕ) →
+pub moves_shown : (g : DaemonConfig) (v w : PassSeen) (l l' : LinkSeen) (ended : Ended) (stops : List ℕ) →
     Serves g v w l l' ended → stops ≡ drop (length v.stops) w.stops →
     (more : List Update) × (own : List Update) × Moves v w more own stops
 moves_shown g v w l l' ended stops s stops_are =
@@ -139,7 +139,7 @@ moves_shown g v w l l' ended stops s stops_are =
     (gains.seen, gains.own, subst (λ (x : List ℕ). Moves v w gains.seen gains.own x) (sym same) gains.moves)
 
 -- in a longer valid history it stays served
-pub connection_longer : {C : Type 0} (longer : ServedLonger) (seen : C → LinkSeen) (g : Grounds)
+pub connection_longer : {C : Type 0} (longer : ServedLonger) (seen : C → LinkSeen) (g : DaemonConfig)
     (history more : List Update) (caller : ℕ) (s : ServedSeen C) →
     is_valid_history (history ++ more) ≡ true → IsConnection seen g history caller s →
     IsConnection seen g (history ++ more) caller s

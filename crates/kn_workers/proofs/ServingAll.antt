@@ -14,7 +14,7 @@ use Rattle.kn_history.specs.declared.update.Update.{Update}
 use Rattle.kn_history.specs.History.{is_valid_history, own_updates}
 use Rattle.kn_turn.specs.declared.view.EndedPass.{EndedPass}
 use Rattle.kn_turn.specs.Passes.{split_of, after_split, after_join}
-use Rattle.kn_daemon.specs.Daemon.{Grounds}
+use Rattle.kn_daemon.specs.Daemon.{DaemonConfig}
 use Rattle.kn_daemon.specs.Laws.{ServedLonger}
 use Rattle.kn_registry.specs.Passes.{PassSeen, IsReady, IsSoundPass}
 use Rattle.kn_registry.proofs.PassMoves.{named_more}
@@ -80,7 +80,7 @@ none_own root new was is number mine front =
     (ap (own_updates root.number) front.1 ∙ all ∙ sym (append-nil root.mine))
 
 module _ {C D : Type 0} (registry : TableId) (door : D → DoorSeen (ServedSeen C)) (seen : C → LinkSeen)
-    (g : Grounds) where
+    (g : DaemonConfig) where
   less_is : (failed : Bool) (d : DoorSeen (ServedSeen C)) (d' : D) → HasGiven failed d (door d') →
       failed ≡ gave_less door d'
   less_is true d d' given = sym (lt-ltb (door d').given (door d').quota given.0)

@@ -6,7 +6,7 @@ use Rattle.std.proofs.Math.Nat.{div-add-mod, mod-lt, suc-mul}
 use Rattle.std.proofs.lemmas.Bool.{ltb-true, lt-ltb}
 use Rattle.std.proofs.lemmas.List.{length-map}
 use Rattle.kn_outside.specs.Seen.{LinkSeen}
-use Rattle.kn_daemon.specs.Daemon.{Grounds}
+use Rattle.kn_daemon.specs.Daemon.{DaemonConfig}
 use Rattle.kn_registry.specs.Passes.{PassSeen}
 use Rattle.kn_workers.specs.Connections.{ServedSeen}
 use Rattle.kn_workers.specs.Doors.{DoorSeen}
@@ -51,7 +51,8 @@ module _ {C R : Type 0} (seen : R → DoorSeen (ServedSeen C)) (quota doors : �
 
 module _ {C D : Type 0} (door : D → DoorSeen (ServedSeen C)) where
   -- as many doors come back as were served
-  pub as_many_back : (link : C → LinkSeen) (g : Grounds) (v w : PassSeen) (doors doors' : List D) (end : ServeEnd) →
+  pub as_many_back : (link : C → LinkSeen) (g : DaemonConfig) (v w : PassSeen) (doors doors' : List D) (end : ServeEnd)
+      →
       AllServed door link g v w doors doors' end → length doors' ≡ length doors
   as_many_back link g v w doors doors' end served =
       sym (ap (λ (l : List D). length l) served.after) ∙ length-map served.works (λ (work : Work C D). work.after)

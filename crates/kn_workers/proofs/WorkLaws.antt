@@ -10,7 +10,7 @@ use Rattle.kn_outside.specs.Seen.{LinkSeen}
 use Rattle.kn_outside.specs.Faults.{Rose}
 use Rattle.kn_history.specs.declared.update.Update.{Update}
 use Rattle.kn_history.specs.History.{is_valid_history, own_updates}
-use Rattle.kn_daemon.specs.Daemon.{Grounds}
+use Rattle.kn_daemon.specs.Daemon.{DaemonConfig}
 use Rattle.kn_daemon.specs.Laws.{ServedLonger}
 use Rattle.kn_base.specs.declared.limits.TheConstants.{CONNECTIONS}
 use Rattle.kn_registry.specs.Passes.{PassSeen, Moves}
@@ -124,7 +124,7 @@ module _ {C : Type 0} where
   pub calm_nothing : (d : DoorSeen (ServedSeen C)) → IsCalm d d
   calm_nothing d = record { same = refl }
 
-  module _ (seen : C → LinkSeen) (g : Grounds) where
+  module _ (seen : C → LinkSeen) (g : DaemonConfig) where
     pub works_nothing : (v : PassSeen) (d : DoorSeen (ServedSeen C)) → WorksAt seen g v v d d 0
     works_nothing v d = record {
       connections = [];

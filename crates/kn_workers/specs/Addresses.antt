@@ -3,7 +3,7 @@ use Rattle.std.specs.Prelude.{ℕ, ◌≡◌, true, false, List, length, Some}
 use Rattle.kn_outside.specs.Seen.{LinkSeen}
 use Rattle.kn_outside.specs.Faults.{Rose}
 use Rattle.kn_history.specs.declared.update.Update.{Update}
-use Rattle.kn_daemon.specs.Daemon.{Grounds}
+use Rattle.kn_daemon.specs.Daemon.{DaemonConfig}
 use Rattle.kn_registry.specs.Passes.{PassSeen}
 use Rattle.kn_workers.specs.declared.address.AddressEnding.{AddressEnding}
 use Rattle.kn_workers.specs.declared.address.AddressEnding.TheVariants.{BindMemory, Unbound, WorkMemory, DoorFailed}
@@ -25,7 +25,7 @@ module _ {C R : Type 0} (door : R → DoorSeen (ServedSeen C)) (link : C → Lin
   -- The address was bound, and each door had a worker, who served each connection that it gave. The root, from which no
   -- pass was split before, had seen this history before, and what it has seen afterwards is the history of all
   -- connections. All doors came back.
-  pub record AreServed (g : Grounds) (past : List Update) (n n' : NetSeen R) (binding : Binding) (end : ServeEnd)
+  pub record AreServed (g : DaemonConfig) (past : List Update) (n n' : NetSeen R) (binding : Binding) (end : ServeEnd)
       (history : List Update) : Type 0 where
     pub doors : List R
     pub back : AreBack n n' binding doors
@@ -39,7 +39,7 @@ module _ {C R : Type 0} (door : R → DoorSeen (ServedSeen C)) (link : C → Lin
 
   -- Why serving an address over this history ends so, and what it leaves of the net. A door that failed, or an address
   -- that couldn't be bound, raised the net's count.
-  abbrev pub ServesOver : Grounds → List Update → NetSeen R → NetSeen R → Binding → AddressEnding → Type 0
+  abbrev pub ServesOver : DaemonConfig → List Update → NetSeen R → NetSeen R → Binding → AddressEnding → Type 0
   ServesOver g past n n' binding BindMemory = n' ≡ n
   ServesOver g past n n' binding Unbound =
       Rose n.faults n'.faults × (n' ≡ record n { bound = Some binding; faults = n'.faults })

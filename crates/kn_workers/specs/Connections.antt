@@ -4,7 +4,7 @@ use Rattle.kn_outside.specs.Seen.{LinkSeen}
 use Rattle.kn_history.specs.declared.update.Update.{Update}
 use Rattle.kn_daemon.specs.declared.ended.Ended.{Ended}
 use Rattle.kn_daemon.specs.declared.ended.Ended.TheVariants as E
-use Rattle.kn_daemon.specs.Daemon.{Grounds}
+use Rattle.kn_daemon.specs.Daemon.{DaemonConfig}
 use Rattle.kn_daemon.specs.Served.{IsServed}
 use Rattle.kn_serve.specs.Serving.{is_over, IsOrderly}
 use Rattle.kn_history.specs.History.{own_updates}
@@ -34,7 +34,7 @@ pub record IsNew (l : LinkSeen) : Type 0 where
 -- The caller's connection was served over this history: all that was taken of its link and written to it, if the link
 -- tells that. Only where it ended by a fault did a call of its link fail. Where the link tells an input that is in
 -- order, and no call of it failed, all of it was answered unless memory ran out.
-pub record IsConnection {C : Type 0} (seen : C → LinkSeen) (g : Grounds) (history : List Update) (caller : ℕ)
+pub record IsConnection {C : Type 0} (seen : C → LinkSeen) (g : DaemonConfig) (history : List Update) (caller : ℕ)
     (s : ServedSeen C) : Type 0 where
   pub number : s.caller ≡ caller
   pub taken : List ℕ
@@ -45,7 +45,7 @@ pub record IsConnection {C : Type 0} (seen : C → LinkSeen) (g : Grounds) (hist
   pub cause : is_fault s.ended ≡ true → 0 < (seen s.link).faults
   pub calm : is_fault s.ended ≡ false → (seen s.link).faults ≡ 0
   pub complete : IfSome (seen s.link).taken
-      (λ told. IfSome (seen s.link).left (λ left. IsOrderly (told ++ left) → (seen s.link).faults ≡ 0
+      (λ given. IfSome (seen s.link).left (λ left. IsOrderly (given ++ left) → (seen s.link).faults ≡ 0
       → (s.ended ≡ E.Done) ⊎ (s.ended ≡ E.Memory)))
 
 module _ {C : Type 0} where

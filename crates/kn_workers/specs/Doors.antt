@@ -4,7 +4,7 @@ use Rattle.std.specs.Prelude.{MatchBool}
 use Rattle.kn_outside.specs.Seen.{LinkSeen}
 use Rattle.kn_outside.specs.Faults.{Rose}
 use Rattle.kn_history.specs.declared.update.Update.{Update}
-use Rattle.kn_daemon.specs.Daemon.{Grounds}
+use Rattle.kn_daemon.specs.Daemon.{DaemonConfig}
 use Rattle.kn_registry.specs.Passes.{PassSeen, Moves}
 use Rattle.kn_workers.specs.Connections.{ServedSeen, IsNew, IsConnection, FollowEachOther, stops_of, own_in}
 use Rattle.kn_workers.specs.declared.accepted.Accepted.{Accepted}
@@ -35,7 +35,7 @@ module _ {C : Type 0} where
   after_finish served d = record d { finished = d.finished + 1; done = with_more (served ∷ []) d.done }
 
   -- What a worker has done at a door so far: it served and finished each connection that the door gave, so many.
-  pub record WorksAt (seen : C → LinkSeen) (g : Grounds) (v w : PassSeen) (d d' : DoorSeen (ServedSeen C))
+  pub record WorksAt (seen : C → LinkSeen) (g : DaemonConfig) (v w : PassSeen) (d d' : DoorSeen (ServedSeen C))
       (count : ℕ) : Type 0 where
     pub connections : List (ServedSeen C)
     pub more : List Update

@@ -4,7 +4,7 @@ use mathlib.Core.List.{IsPrefix}
 use Rattle.atomic_table.specs.Seated.{TableId}
 use Rattle.kn_outside.specs.Seen.{LinkSeen}
 use Rattle.kn_history.specs.declared.update.Update.{Update}
-use Rattle.kn_daemon.specs.Daemon.{Grounds}
+use Rattle.kn_daemon.specs.Daemon.{DaemonConfig}
 use Rattle.kn_registry.specs.Passes.{PassSeen, IsReady}
 use Rattle.kn_workers.specs.Connections.{ServedSeen}
 use Rattle.kn_workers.specs.Doors.{DoorSeen, WorksAt, HasGiven}
@@ -45,7 +45,7 @@ AllSeenIn history (pass ∷ passes) = IsPrefix pass.seen history × AllSeenIn hi
 
 -- the work at a post
 pub record WorksAtPost {C D : Type 0} (registry : TableId) (door : D → DoorSeen (ServedSeen C)) (seen : C → LinkSeen)
-    (g : Grounds) (p p' : Post D) : Type 0 where
+    (g : DaemonConfig) (p p' : Post D) : Type 0 where
   pub ready : IsReady registry p'.pass
   pub works : WorksAt seen g p.pass p'.pass (door p.door) (door p'.door) p'.end.finished
   pub failed : HasGiven p'.end.failed (door p.door) (door p'.door)

@@ -7,7 +7,7 @@ use Rattle.kn_outside.specs.Seen.{LinkSeen}
 use Rattle.kn_history.specs.declared.update.Update.{Update}
 use Rattle.kn_turn.specs.declared.view.EndedPass.{EndedPass}
 use Rattle.kn_turn.specs.Passes.{split_of, after_split, after_join}
-use Rattle.kn_daemon.specs.Daemon.{Grounds}
+use Rattle.kn_daemon.specs.Daemon.{DaemonConfig}
 use Rattle.kn_registry.specs.Passes.{PassSeen, IsSoundPass}
 use Rattle.kn_workers.specs.Connections.{ServedSeen, IsConnection, FollowEachOther, stops_of, own_in}
 use Rattle.kn_workers.specs.Doors.{DoorSeen, with_more, HasGiven}
@@ -47,7 +47,7 @@ module _ {C D : Type 0} (door : D → DoorSeen (ServedSeen C)) where
   all_quotas [] = 0
   all_quotas (d ∷ doors) = (door d).quota + all_quotas doors
 
-  module _ (seen : C → LinkSeen) (g : Grounds) (start : ℕ) (history : List Update) where
+  module _ (seen : C → LinkSeen) (g : DaemonConfig) (start : ℕ) (history : List Update) where
     -- The worker with this number served each connection that its door gave, over the history.
     pub record HasWorked (caller : ℕ) (work : Work C D) : Type 0 where
       pub each : All (IsConnection seen g history caller) work.connections
@@ -70,7 +70,7 @@ module _ {C D : Type 0} (door : D → DoorSeen (ServedSeen C)) where
 
   -- Each door had a worker, whose pass was split from the root and joined into it again, in the doors' order. The root
   -- made no update and didn't have the turn: each update that it has seen since is one of a connection.
-  pub record AllServed (link : C → LinkSeen) (g : Grounds) (v w : PassSeen) (doors doors' : List D)
+  pub record AllServed (link : C → LinkSeen) (g : DaemonConfig) (v w : PassSeen) (doors doors' : List D)
       (end : ServeEnd) : Type 0 where
     pub works : List (Work C D)
     pub before : map (λ work. work.before) works ≡ doors

@@ -2,6 +2,7 @@
 
 /// The next connection of a door, or why there is none.
 pub enum Accepted<C> {
+    /// A connection, which counts against the quota.
     Conn(C),
     /// The door has given as many connections as its quota.
     Closed,

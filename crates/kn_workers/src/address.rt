@@ -3,7 +3,7 @@ ghost use Rattle.std.specs.Prelude.{◌≡◌, ◌≤◌, None, []};
 ghost use Rattle.kn_base.specs.declared.limits.TheConstants.{WORKERS, CONNECTIONS};
 ghost use Rattle.kn_auth.specs.Verdicts.{verdict_of};
 ghost use Rattle.kn_registry.specs.Passes.{IsReady};
-ghost use Rattle.kn_serve.specs.Grounds.{grounds_by};
+ghost use Rattle.kn_serve.specs.Configs.{config_by};
 ghost use Rattle.kn_workers.specs.Addresses.{ServesOver};
 
 use crate::binding::{BindFault, ServedAddress};
@@ -60,7 +60,7 @@ where
     requires quota { served.now.quota ≤ CONNECTIONS }
     requires unbound { (N.seen net.old).bound ≡ None }
     requires none { (N.seen net.old).rooms ≡ [] }
-    ensures { ServesOver N.Room.seen N.Room.Conn.seen (grounds_by verdict_of keys.now.auth keys.now.secret) root.seen
+    ensures { ServesOver N.Room.seen N.Room.Conn.seen (config_by verdict_of keys.now.auth keys.now.secret) root.seen
         (N.seen net.old) (N.seen net.new) served.now result }
 {
     let mut rooms = match net.bind(rt, alloc, served) {

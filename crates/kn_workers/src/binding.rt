@@ -50,5 +50,6 @@ impl Binding {
 pub enum BindFault {
     /// There is no such address, or it can't be listened at.
     Failed,
+    /// Out of memory for the doors.
     NoMemory,
 }

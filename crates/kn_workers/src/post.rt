@@ -2,7 +2,7 @@
 ghost use Rattle.std.specs.Prelude.{◌≡◌, ◌≤◌};
 ghost use Rattle.kn_base.specs.declared.limits.TheConstants.{CONNECTIONS};
 ghost use Rattle.kn_registry.specs.Passes.{IsReady};
-ghost use Rattle.kn_serve.specs.Grounds.{grounds_by};
+ghost use Rattle.kn_serve.specs.Configs.{config_by};
 ghost use Rattle.kn_workers.specs.Posts.{WorksAtPost};
 
 use crate::door::Door;
@@ -33,7 +33,7 @@ pub(crate) fn work<R: Wait, A: Authenticator, D: Door, G: Gate>(
 )
     requires ready { IsReady reg.now post.old.pass }
     requires quota { (D.seen post.old.door).quota ≤ CONNECTIONS }
-    ensures { WorksAtPost reg.now D.seen D.Conn.seen (grounds_by A.verdict auth.now secret.now) post.old post.new }
+    ensures { WorksAtPost reg.now D.seen D.Conn.seen (config_by A.verdict auth.now secret.now) post.old post.new }
 {
     post.end = serve_door(
         rt,

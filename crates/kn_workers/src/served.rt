@@ -2,8 +2,8 @@
 ghost use Rattle.std.specs.Prelude.{◌≡◌, List, length};
 ghost use Rattle.kn_history.specs.declared.update.Update.{Update};
 ghost use Rattle.kn_registry.specs.Passes.{IsReady, Moves};
-ghost use Rattle.kn_serve.specs.Grounds.{grounds_by};
-ghost use Rattle.kn_serve.specs.Kept.{IsKept};
+ghost use Rattle.kn_serve.specs.Configs.{config_by};
+ghost use Rattle.kn_serve.specs.KeptBases.{IsKept};
 ghost use Rattle.kn_workers.specs.Connections.{IsNew, IsConnection};
 
 use kn_auth::Authenticator;
@@ -48,6 +48,7 @@ impl<C> Model for Served<C> {
 }
 
 impl<C> Served<C> {
+    /// The link, as the connection left it.
     pub fn link(&self) -> &C
         ensures { result.now ≡ self.now.link }
     {
@@ -100,7 +101,7 @@ pub(crate) fn serve_link<R: Wait, A: Authenticator, C: Link, G: Gate>(
     requires of_history { IsKept pass.old.seen kept.old }
     ensures ready { IsReady reg.now pass.new }
     ensures of_history { IsKept pass.new.seen kept.new }
-    ensures connection { IsConnection C.seen (grounds_by A.verdict auth.now secret.now)
+    ensures connection { IsConnection C.seen (config_by A.verdict auth.now secret.now)
         pass.new.seen pass.old.number result }
     ensures from { result.from ≡ length pass.old.seen }
     ensures to { result.to ≡ length pass.new.seen }

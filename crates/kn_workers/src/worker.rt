@@ -2,7 +2,7 @@
 ghost use Rattle.std.specs.Prelude.{◌≡◌, ◌≤◌};
 ghost use Rattle.kn_base.specs.declared.limits.TheConstants.{CONNECTIONS};
 ghost use Rattle.kn_registry.specs.Passes.{IsReady};
-ghost use Rattle.kn_serve.specs.Grounds.{grounds_by};
+ghost use Rattle.kn_serve.specs.Configs.{config_by};
 ghost use Rattle.kn_workers.specs.Doors.{WorksAt, HasGiven};
 
 use crate::accepted::Accepted;
@@ -40,7 +40,7 @@ pub fn serve_door<R: Wait, A: Authenticator, D: Door, G: Gate>(
     requires ready { IsReady reg.now pass.old }
     requires quota { (D.seen door.old).quota ≤ CONNECTIONS }
     ensures ready { IsReady reg.now pass.new }
-    ensures works { WorksAt D.Conn.seen (grounds_by A.verdict auth.now secret.now)
+    ensures works { WorksAt D.Conn.seen (config_by A.verdict auth.now secret.now)
         pass.old pass.new (D.seen door.old) (D.seen door.new) result.finished }
     ensures failed { HasGiven result.failed (D.seen door.old) (D.seen door.new) }
 {

@@ -3,7 +3,7 @@ ghost use Rattle.std.specs.Prelude.{◌≡◌, ◌+◌, ◌≤◌, [], length, v
 ghost use Rattle.std.specs.List.{AllZip};
 ghost use Rattle.kn_base.specs.declared.limits.TheConstants.{WORKERS, CONNECTIONS};
 ghost use Rattle.kn_registry.specs.Passes.{IsReady};
-ghost use Rattle.kn_serve.specs.Grounds.{grounds_by};
+ghost use Rattle.kn_serve.specs.Configs.{config_by};
 ghost use Rattle.kn_workers.specs.Workers.{splits_from, IsRejoined, all_quotas, AllServed};
 ghost use Rattle.kn_workers.specs.Posts.{posts_of, WorksAtPost};
 
@@ -45,7 +45,7 @@ where
     requires few { length doors.old ≤ WORKERS }
     requires quotas { all_quotas D.seen doors.old ≤ CONNECTIONS }
     ensures ready { IsReady reg.now root.new }
-    ensures served { IfOk result (AllServed D.seen D.Conn.seen (grounds_by A.verdict auth.now secret.now)
+    ensures served { IfOk result (AllServed D.seen D.Conn.seen (config_by A.verdict auth.now secret.now)
         root.old root.new doors.old doors.new) }
     ensures refused { OnErr result (IsRejoined root.old root.new) }
     ensures doors { OnErr result (doors.new ≡ doors.old) }
@@ -101,7 +101,7 @@ fn work_all<R: Threads + Wait + Sync, A: Authenticator, D: Door, G: Gate>(
 where
     D::Conn: Send,
     requires ready { All (λ p. IsReady reg.now p.pass × ((D.seen p.door).quota ≤ CONNECTIONS)) posts.old }
-    ensures { AllZip (WorksAtPost reg.now D.seen D.Conn.seen (grounds_by A.verdict auth.now secret.now))
+    ensures { AllZip (WorksAtPost reg.now D.seen D.Conn.seen (config_by A.verdict auth.now secret.now))
         posts.old posts.new }
 {
     thread::for_each_mut(
@@ -111,7 +111,7 @@ where
         &|_, post: &mut Post<D>|
             requires { IsReady reg.now post.old.pass × ((D.seen post.old.door).quota ≤ CONNECTIONS) }
             ensures { WorksAtPost reg.entry.now D.seen D.Conn.seen
-                (grounds_by A.verdict auth.entry.now secret.entry.now) post.old post.new }
+                (config_by A.verdict auth.entry.now secret.entry.now) post.old post.new }
         { work(rt, alloc, reg, auth, secret, post, gate) },
     );
 }

@@ -1,6 +1,6 @@
 use Rattle.std.proofs.Common.{refl}
 use Rattle.keynoted.specs.Outcomes.{NoCommand, AskEnded, CheckEnded, FollowEnded, VerifyEnded}
-use Rattle.kn_words.proofs.Apart.{no_serve_otherwise}
+use Rattle.kn_words.proofs.WordSplits.{no_serve_otherwise}
 use Rattle.keynoted.proofs.GenLaws.{gen_ended}
 use Rattle.keynoted.proofs.run.dispatch.Goals as goal
 

@@ -3,5 +3,5 @@ use Rattle.keynoted.proofs.run.run.Goals as goal
 
 pub returns : goal.returns
 returns g c =
-    specified _ _ _ _ _ _ c.dispatch.ensures c.one_query_is_meant.ensures c.one_ending.ensures.no_other
+    specified _ _ _ _ _ _ c.dispatch.ensures c.last_query_is_one.ensures c.one_ending.ensures.no_other
     c.one_verdict.ensures

@@ -3,7 +3,7 @@ use Rattle.std.specs.Prelude.{All}
 use Rattle.std.specs.Str.{IsUtf8}
 use Rattle.kn_words.specs.Commands.{ServeFor, IsNo}
 use Rattle.keynoted.specs.Outcomes.{NoCommand, WordsLackMemory, ServeEnded}
-use Rattle.kn_words.proofs.Apart.{no_command, no_serve_text}
+use Rattle.kn_words.proofs.WordSplits.{no_command, no_serve_text}
 use Rattle.kn_words.proofs.ClapLaws.{some_value, no_value}
 use Rattle.keynoted.proofs.serving.run_service.Goals as goal
 

@@ -5,7 +5,7 @@ use Rattle.kn_history.specs.declared.update.Update.{Update}
 use Rattle.kn_words.specs.declared.service.Service.TheInside.{Inside}
 use Rattle.kn_words.specs.Orders.{Order}
 use Rattle.kn_inputs.specs.Held.{AreKeys}
-use Rattle.kn_inputs.specs.Inputs.{StopsAtKeys, grounds_of}
+use Rattle.kn_inputs.specs.Inputs.{StopsAtKeys, config_of_keys}
 use Rattle.kn_inputs.proofs.Stopped.{keys_stopped}
 use Rattle.kn_workers.specs.declared.binding.Binding.{Binding}
 use Rattle.kn_workers.specs.Addresses.{ServesOver}
@@ -22,10 +22,9 @@ returns-in-Ok g c = λ f bytes policy loaded before.
     rw named at c.in-Ok.ensures.asked in
     let known : AreKeys mid c.args.service.now.files.keys c.in-Ok.keys = rw named at c.in-Ok.ensures.known in
     let Serves : List Update → Binding → Type 0 =
-    λ past binding. ServesOver g.N.Room.Door.seen g.N.Room.Conn.Sink.seen (grounds_of c.in-Ok.keys) past
+    λ past binding. ServesOver g.N.Room.Door.seen g.N.Room.Conn.Sink.seen (config_of_keys c.in-Ok.keys) past
     (g.N.Net.seen c.args.net.now) (g.N.Net.seen c.serve_address.new.net) binding c.serve_address.result in
-    let Bound : Inside → Binding =
-    λ s. record { address = s.address.now; doors = s.workers; quota = s.connections } in
+    let Bound : Inside → Binding = λ s. record { address = s.address.now; doors = s.workers; quota = s.connections } in
     let same : Bound c.service.inside ≡ binding_of c.args.service.now = ap binding_of c.service.view_is in
     let bound : Serves c.args.root.seen (binding_of c.args.service.now) =
     subst (λ (b : Binding). Serves c.args.root.seen b) (ap Bound c.service-inside.view_is ∙ same)

@@ -6,10 +6,10 @@ use Rattle.kn_system.specs.Lawful.{IsLeast}
 use Rattle.kn_system.specs.Least.{at_first, least_levels}
 use Rattle.kn_system.specs.Proofs.{IsProof}
 use Rattle.kn_answer.specs.Built.{IsBuilt}
-use Rattle.kn_answer.proofs.Bridge.{IsPolicyLevel-by_name}
-use Rattle.kn_answer.proofs.Listed.{AreOfSystem-steps, level-most}
+use Rattle.kn_answer.proofs.NamedLevels.{IsPolicyLevel-by_name}
+use Rattle.kn_answer.proofs.RowLists.{AreOfSystem-steps, level-most}
 use Rattle.kn_answer.proofs.Located.{proof-named}
-use Rattle.kn_answer.proofs.Rowed.{IsBuilt-stated}
+use Rattle.kn_answer.proofs.StatementRows.{IsBuilt-stated}
 use Rattle.kn_answer.proofs.answers.answer.Goals as goal
 
 pub named_rows-requires : goal.named_rows-requires

@@ -1,6 +1,6 @@
 use Rattle.std.proofs.Common.{◌≡◌, ◌+◌, ◌<◌, length, get_or, take, sym, ap, subst, arith}
 use Rattle.kn_proof.specs.declared.row.Row.{Row}
-use Rattle.kn_answer.proofs.Listed.{named-more}
+use Rattle.kn_answer.proofs.RowLists.{named-more}
 use Rattle.kn_answer.specs.Located.{IsLocated, AreLocated}
 use Rattle.kn_answer.proofs.answers.named_rows.Goals as goal
 

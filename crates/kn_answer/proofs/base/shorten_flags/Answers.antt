@@ -1,6 +1,6 @@
 use Rattle.std.proofs.Common.{◌≡◌, ◌+◌, ◌<◌, ◌≤◌, Bool, List, length, take, sym, ap, ◌∙◌, arith}
 use Rattle.std.proofs.lemmas.List.{length_push, take-take}
-use Rattle.kn_system.proofs.Shortened.{popped_last, take-init}
+use Rattle.kn_system.proofs.WithoutLast.{popped_last, take-init}
 use Rattle.kn_answer.proofs.base.shorten_flags.Goals as goal
 
 pub loop-place-preserved : goal.loop-place-preserved

@@ -1,5 +1,5 @@
 use Rattle.std.proofs.Common.{◌≡◌, ◌+◌, ◌<◌, length, get_or, take, sym, ap, ◌∙◌, subst, arith}
-use Rattle.kn_answer.proofs.Listed.{located-more}
+use Rattle.kn_answer.proofs.RowLists.{located-more}
 use Rattle.kn_answer.specs.Located.{AreLocated}
 use Rattle.kn_answer.proofs.built.locate.Goals as goal
 
@@ -12,4 +12,4 @@ loop-row-preserved c =
     subst (λ rows. AreLocated c.args.built.now (take (c.loop-row.row-index + 1) c.args.reply.now.rows) rows)
     (sym c.in-Ok.ensures.ok)
     (located-more c.args.built.now c.args.reply.now.rows c.loop-row.rows c.loop-row.row-index c.row-item.result
-    c.located.result within here c.loop-row.invariant c.located.ensures)
+    c.numbered_row.result within here c.loop-row.invariant c.numbered_row.ensures)

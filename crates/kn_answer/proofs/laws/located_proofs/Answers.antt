@@ -1,5 +1,5 @@
 use Rattle.kn_answer.proofs.Located.{proof-named, proof-numbered}
-use Rattle.kn_answer.proofs.Rowed.{IsBuilt-stated}
+use Rattle.kn_answer.proofs.StatementRows.{IsBuilt-stated}
 use Rattle.kn_answer.proofs.laws.located_proofs.Goals as goal
 
 pub returns : goal.returns

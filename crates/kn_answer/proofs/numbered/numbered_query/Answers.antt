@@ -5,7 +5,7 @@ use Rattle.kn_principal.specs.Principals.{policy}
 use Rattle.kn_meaning.specs.Equations.{Statement, equations_over, statement_of}
 use Rattle.kn_meaning.specs.Occurring.{occurring, statement_names}
 use Rattle.kn_answer.specs.Extending.{AddsNames}
-use Rattle.kn_answer.proofs.Grown.{AddsNames-longer, AddsNames-then, AreNamesOf-added}
+use Rattle.kn_answer.proofs.NewNames.{AddsNames-longer, AddsNames-then, AreNamesOf-added}
 use Rattle.kn_answer.proofs.numbered.numbered_query.Goals as goal
 
 pub returns-clause-system : goal.returns-clause-system

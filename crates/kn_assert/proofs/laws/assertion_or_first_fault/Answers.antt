@@ -1,7 +1,7 @@
 use Rattle.std.proofs.Common.{◌≡◌, ℕ, List, ◌⊎◌, inl, inr, Result, Ok, Err, refl}
 use Rattle.kn_trees.specs.declared.assertion.Assertion.{Assertion}
 use Rattle.kn_assert.specs.Reading.{reading_of}
-use Rattle.kn_assert.specs.Spelled.{IsReading, IsFirstReadFault}
+use Rattle.kn_assert.specs.AssertionTexts.{IsReading, IsFirstReadFault}
 use Rattle.kn_fields.specs.declared.fault.ReadFault.{ReadFault}
 use Rattle.kn_assert.proofs.laws.assertion_or_first_fault.Goals as goal
 

@@ -1,4 +1,4 @@
-use Rattle.kn_assert.specs.Spelled.{IsReading, IsFirstReadFault}
+use Rattle.kn_assert.specs.AssertionTexts.{IsReading, IsFirstReadFault}
 use Rattle.kn_assert.proofs.Readings.{FieldsTold, text_tells, spelled_reading, fault_reading, no_memory}
 use Rattle.kn_assert.proofs.Showing.{tells_value, tells_fault}
 use Rattle.kn_assert.proofs.laws.readings_are_computed.Goals as goal

@@ -11,12 +11,12 @@ loop-heading-init c = refl
 pub with_field-requires-clause-before : goal.with_field-requires-clause-before
 with_field-requires-clause-before c =
     (told_at c.args.fields.now.tokens (fields_of c.args.fields.now.tokens) _ c.loop-heading.heading-index
-    c.headings-heading-items.ensures c.loop-heading-test.true).told.part.before
+    c.headings-heading-items.ensures c.loop-heading-test.true).exact.part.before
 
 pub with_field-requires-clause-within : goal.with_field-requires-clause-within
 with_field-requires-clause-within c =
     (told_at c.args.fields.now.tokens (fields_of c.args.fields.now.tokens) _ c.loop-heading.heading-index
-    c.headings-heading-items.ensures c.loop-heading-test.true).told.part.within
+    c.headings-heading-items.ensures c.loop-heading-test.true).exact.part.within
 
 pub returns-in_err-stated : goal.returns-in_err-stated
 returns-in_err-stated c =

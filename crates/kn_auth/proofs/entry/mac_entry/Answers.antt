@@ -1,5 +1,5 @@
 use Rattle.kn_auth.specs.KeyLines.{SpellsKey, BeginsWithKey}
-use Rattle.kn_auth.proofs.Stated.{key_words, no_key}
+use Rattle.kn_auth.proofs.LineEntries.{key_words, no_key}
 use Rattle.kn_auth.proofs.Taking.{key_size, on_err_always}
 use Rattle.kn_auth.proofs.entry.mac_entry.Goals as goal
 

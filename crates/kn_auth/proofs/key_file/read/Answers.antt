@@ -1,7 +1,7 @@
 use Rattle.std.proofs.Common.{◌≡◌, ◌+◌, length, arith, ap, rules, ◌∙◌}
 use Rattle.std.specs.Str.Lines.{lines}
 use Rattle.kn_auth.proofs.FileLines.{lines_given}
-use Rattle.kn_auth.proofs.Whole.{IsReadTo, read_none, read_more, first_refused, read_whole}
+use Rattle.kn_auth.proofs.KeyFiles.{IsReadTo, read_none, read_more, first_refused, read_whole}
 use Rattle.kn_auth.proofs.key_file.read.Goals as goal
 
 pub lines-init : goal.lines-init

@@ -1,5 +1,5 @@
 use Rattle.std.proofs.Common.{◌≤◌, ◌+◌, length}
-use Rattle.kn_auth.proofs.Whole.{IsReadTo}
+use Rattle.kn_auth.proofs.KeyFiles.{IsReadTo}
 use Rattle.kn_auth.proofs.key_file.read.Given as goal
 
 -- what the lines so far say, and as many lines are left as there are bytes at most

@@ -1,4 +1,4 @@
-use Rattle.kn_auth.proofs.Whole.{only_file, only_line}
+use Rattle.kn_auth.proofs.KeyFiles.{only_file, only_line}
 use Rattle.kn_auth.proofs.key_file.read_keys.Goals as goal
 
 pub returns-clause-each_file : goal.returns-clause-each_file

@@ -1,5 +1,5 @@
-use Rattle.kn_auth.proofs.Decided.{reads_as}
-use Rattle.kn_auth.proofs.Whole.{file_or_line, one_file, one_line}
+use Rattle.kn_auth.proofs.OneReading.{reads_as}
+use Rattle.kn_auth.proofs.KeyFiles.{file_or_line, one_file, one_line}
 use Rattle.kn_auth.proofs.laws.one_reading.Goals as goal
 
 pub returns : goal.returns

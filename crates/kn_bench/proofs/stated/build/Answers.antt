@@ -1,7 +1,7 @@
 use Rattle.std.proofs.Common.{◌≡◌, ◌++◌, ◌∷◌, [], length, ap, ◌∙◌, arith, rules}
 use Rattle.kn_system.specs.Equations.{SystemEquations, node_total}
 use Rattle.kn_system.specs.Rows.{SystemRow}
-use Rattle.kn_system.proofs.Grown.{node_total-push}
+use Rattle.kn_system.proofs.AddedRows.{node_total-push}
 use Rattle.kn_bench.specs.Rows.{IsStated}
 use Rattle.kn_bench.proofs.stated.build.Goals as goal
 

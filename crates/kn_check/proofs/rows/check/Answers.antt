@@ -3,7 +3,7 @@ use Rattle.kn_proof.specs.declared.row.Row.{Row as ProofRow}
 use Rattle.kn_system.specs.Equations.{SystemEquations}
 use Rattle.kn_system.specs.Least.{at_first}
 use Rattle.kn_system.specs.Proofs.{levels_after, IsClosed, IsProof}
-use Rattle.kn_check.proofs.Refused.{proof-refused, reject-row}
+use Rattle.kn_check.proofs.ProofsAccepted.{proof-refused, reject-row}
 use Rattle.kn_check.proofs.rows.check.Goals as goal
 
 pub returns-in_err-follow_rows-clause-only : goal.returns-in_err-follow_rows-clause-only

@@ -6,7 +6,7 @@ use Rattle.kn_system.specs.Equations.{SystemEquations, row_at}
 use Rattle.kn_system.specs.Lawful.{GoesOn}
 use Rattle.kn_system.specs.Least.{at_first}
 use Rattle.kn_system.specs.Proofs.{levels_after, AreSteps, IsStep}
-use Rattle.kn_check.proofs.Counted.{support_nodes-take, support_nodes-more}
+use Rattle.kn_check.proofs.NodesRead.{support_nodes-take, support_nodes-more}
 use Rattle.kn_check.proofs.rows.follow_rows.Goals as goal
 
 abbrev none : ProofRow

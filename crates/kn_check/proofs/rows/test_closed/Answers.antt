@@ -1,6 +1,6 @@
 use Rattle.std.proofs.Common.{ℕ, ◌+◌, List, arith, rules}
 use Rattle.kn_system.specs.Rows.{SystemRow}
-use Rattle.kn_system.proofs.Nodes.{node_total-take, node_total-more}
+use Rattle.kn_system.proofs.NodeCounts.{node_total-take, node_total-more}
 use Rattle.kn_check.proofs.rows.test_closed.Goals as goal
 
 pub returns-then-levels-authorizer-clause-ticks : goal.returns-then-levels-authorizer-clause-ticks

@@ -1,14 +1,14 @@
 use Rattle.std.proofs.Common.{List, subst}
 use Rattle.kn_history.specs.declared.update.Update.{Update}
 use Rattle.kn_serve.specs.Serving.{Serves}
-use Rattle.kn_inputs.specs.Inputs.{grounds_of}
+use Rattle.kn_inputs.specs.Inputs.{config_of_keys}
 use Rattle.kn_commands.specs.Asking.{IsLinkServed}
 use Rattle.kn_commands.proofs.Asked.{link_served}
 use Rattle.kn_commands.proofs.asking.serve.Goals as goal
 
 pub returns : goal.returns
 returns g c = λ texts l.
-    let grounds = grounds_of c.args.keys.now in
+    let grounds = config_of_keys c.args.keys.now in
     let before = g.L.Sink.seen c.args.own.now in
     let behind = g.L.Sink.seen c.serve_connection-ended.new.link in
     let ended = c.serve_connection-ended.result in

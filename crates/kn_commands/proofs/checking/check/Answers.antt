@@ -3,7 +3,7 @@ use Rattle.kn_files.specs.Pieces.{pieces_of}
 use Rattle.kn_outside.specs.Asked.{HasAsked}
 use Rattle.kn_load.specs.Loaded.{StopsLoading}
 use Rattle.kn_inputs.specs.Held.{HasContent}
-use Rattle.kn_commands.proofs.Reached.{load_stops}
+use Rattle.kn_commands.proofs.CheckedFiles.{load_stops}
 use Rattle.kn_commands.proofs.checking.check.Goals as goal
 
 pub returns : goal.returns

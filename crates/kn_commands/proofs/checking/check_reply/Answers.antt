@@ -7,7 +7,7 @@ use Rattle.kn_words.specs.declared.files.Source.TheVariants.{Reply}
 use Rattle.kn_inputs.specs.Held.{HasContent}
 use Rattle.kn_commands.specs.Checking.{IsTried, ReplyShows}
 use Rattle.kn_inputs.proofs.Files.{content_there, keeps_content}
-use Rattle.kn_commands.proofs.Reached.{read_more, shown_cause}
+use Rattle.kn_commands.proofs.CheckedFiles.{read_more, shown_cause}
 use Rattle.kn_commands.proofs.checking.check_reply.Goals as goal
 
 pub returns-in-Ok : goal.returns-in-Ok

@@ -4,14 +4,14 @@ use Rattle.kn_files.specs.Pieces.{pieces_of}
 use Rattle.kn_session.specs.Sessions.{Session}
 use Rattle.kn_history.specs.declared.update.Update.{Update}
 use Rattle.kn_history.specs.History.{loaded_history}
-use Rattle.kn_play.specs.Meaning.{Means, IsMeantQuery}
+use Rattle.kn_play.specs.LastQueries.{Means, IsFoundQuery}
 use Rattle.kn_words.specs.Names.{in_order}
 use Rattle.kn_words.specs.declared.files.Source.TheVariants.{Script as TheScript}
 use Rattle.kn_inputs.specs.Held.{HasContent}
 use Rattle.kn_commands.specs.Checking.{HasQuery}
 use Rattle.kn_load.proofs.Alone.{looks_alone}
 use Rattle.kn_inputs.proofs.Files.{content_there, keeps_content}
-use Rattle.kn_commands.proofs.Reached.{read_more}
+use Rattle.kn_commands.proofs.CheckedFiles.{read_more}
 use Rattle.kn_commands.proofs.checking.check_script.Goals as goal
 
 pub returns-in-Some : goal.returns-in-Some
@@ -25,11 +25,11 @@ returns-in-Some g c = λ f bytes has loaded before.
     c.into_book-book.ensures.book
     ∙ looks_alone c.args.root c.into_book-book.new.pass loaded.root.number loaded.root.unsplit
     c.into_book-book.ensures.sound c.into_book-book.ensures.looked ∙ loaded.seen in
-    let first : IsMeantQuery c.into_book-book.result c.as_slice.result.now c.in-Some.meant =
+    let first : IsFoundQuery c.into_book-book.result c.as_slice.result.now c.in-Some.meant =
     rw c.in-Some.is at c.in-Ok-find_query.ensures.some in
-    let second : IsMeantQuery c.into_book-book.result c.in-Ok.script c.in-Some.meant = rw c.as_slice.ensures at first in
-    let found : IsMeantQuery (loaded_history (pieces_of bytes)) c.in-Ok.script c.in-Some.meant =
-    subst (λ (h : Of Update). IsMeantQuery h c.in-Ok.script c.in-Some.meant) seen second in
+    let second : IsFoundQuery c.into_book-book.result c.in-Ok.script c.in-Some.meant = rw c.as_slice.ensures at first in
+    let found : IsFoundQuery (loaded_history (pieces_of bytes)) c.in-Ok.script c.in-Some.meant =
+    subst (λ (h : Of Update). IsFoundQuery h c.in-Ok.script c.in-Some.meant) seen second in
     let query : HasQuery f names found.0 c.in-Some.meant.values = record {
       bytes = bytes;
       policy = record { content = has; loadable = loaded.loadable };

@@ -1,6 +1,6 @@
 use Rattle.std.proofs.Common.{◌≡◌, ℕ, suc, ◌+◌, subst, arith}
 use Rattle.kn_critical.specs.Searching.{IsLevelWithoutRun}
-use Rattle.kn_critical.proofs.Decided.{alone-critical, run-uncritical}
+use Rattle.kn_critical.proofs.CriticalByLevels.{alone-critical, run-uncritical}
 use Rattle.kn_critical.proofs.runs.clear_rows.Goals as goal
 
 pub loop-count-preserved : goal.loop-count-preserved

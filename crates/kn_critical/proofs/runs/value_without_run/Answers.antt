@@ -1,5 +1,5 @@
 use Rattle.std.proofs.Common.{◌≡◌, length, arith}
-use Rattle.kn_critical.proofs.Whole.{end-within, level-without, whole-again}
+use Rattle.kn_critical.proofs.BasesWithout.{end-within, level-without, whole-again}
 use Rattle.kn_critical.proofs.runs.value_without_run.Goals as goal
 
 pub restore_run-requires-clause-in_range : goal.restore_run-requires-clause-in_range

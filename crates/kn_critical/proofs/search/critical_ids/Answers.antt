@@ -3,7 +3,7 @@ use Rattle.std.proofs.lemmas.List.{drop_all}
 use Rattle.kn_env.specs.Environment.{Asked}
 use Rattle.kn_meaning.specs.Critical.{AreCritical}
 use Rattle.kn_meaning.specs.Equations.{Part}
-use Rattle.kn_critical.proofs.Found.{AreFound, found-critical, found-other, all-found}
+use Rattle.kn_critical.proofs.CriticalSoFar.{AreFound, found-critical, found-other, all-found}
 use Rattle.kn_critical.proofs.Rows.{row-has}
 use Rattle.kn_critical.proofs.search.critical_ids.Goals.{then-critical+in_ok-add, else-critical}
 use Rattle.kn_critical.proofs.search.critical_ids.Goals as goal

@@ -1,5 +1,5 @@
 use Rattle.kn_critical.specs.Searching.{AreUncritical, IsWhole}
-use Rattle.kn_critical.proofs.Found.{AreFound}
+use Rattle.kn_critical.proofs.CriticalSoFar.{AreFound}
 use Rattle.kn_critical.proofs.search.critical_ids.Given as goal
 
 abbrev pub invariant-loop-row : goal.invariant-loop-row

@@ -1,6 +1,6 @@
 use Rattle.std.proofs.Common.{◌≡◌, true, false, sym, ◌∙◌, ◌+◌, subst, le_refl}
 use Rattle.kn_meaning.specs.Critical.{is_row_by}
-use Rattle.kn_critical.proofs.Decided.{decides-cleared, decides-none, decides-tried, later-uncritical, one-id}
+use Rattle.kn_critical.proofs.CriticalByLevels.{decides-cleared, decides-none, decides-tried, later-uncritical, one-id}
 use Rattle.kn_critical.proofs.search.is_critical.Goals as goal
 
 pub returns-then-row-gallop-clause-critical : goal.returns-then-row-gallop-clause-critical

@@ -1,5 +1,5 @@
-use Rattle.kn_daemon.proofs.Told.{critical-one}
-use Rattle.kn_daemon.proofs.Asked.{critical-small, critical-large}
+use Rattle.kn_daemon.proofs.LevelReplies.{critical-one}
+use Rattle.kn_daemon.proofs.QuestionRefusals.{critical-small, critical-large}
 use Rattle.kn_daemon.proofs.laws.critical_is_one.Goals as goal
 
 pub returns : goal.returns

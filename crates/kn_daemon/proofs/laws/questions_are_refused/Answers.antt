@@ -1,4 +1,4 @@
-use Rattle.kn_daemon.proofs.Asked.{closed-refused, names-refused, none-standing_refused}
+use Rattle.kn_daemon.proofs.QuestionRefusals.{closed-refused, names-refused, none-standing_refused}
 use Rattle.kn_daemon.proofs.laws.questions_are_refused.Goals as goal
 
 pub returns : goal.returns

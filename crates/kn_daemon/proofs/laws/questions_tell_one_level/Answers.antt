@@ -1,4 +1,4 @@
-use Rattle.kn_daemon.proofs.Told.{watch-tells_value, critical-tells_value, news-tells_value}
+use Rattle.kn_daemon.proofs.LevelReplies.{watch-tells_value, critical-tells_value, news-tells_value}
 use Rattle.kn_daemon.proofs.laws.questions_tell_one_level.Goals as goal
 
 pub returns : goal.returns

@@ -1,4 +1,4 @@
-use Rattle.kn_daemon.proofs.Unplaced.{unplaced-free}
+use Rattle.kn_daemon.proofs.FreeReplies.{unplaced-free}
 use Rattle.kn_daemon.proofs.laws.unplaced_is_free.Goals as goal
 
 pub returns : goal.returns

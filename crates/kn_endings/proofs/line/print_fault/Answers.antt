@@ -2,7 +2,7 @@ use Rattle.std.proofs.Common.{◌≡◌, ◌∙◌, ap, codes}
 use Rattle.std.specs.Prelude.{decimal}
 use Rattle.std.specs.Option.{unwrap_or}
 use Rattle.kn_fields.specs.Numbers.{fault_number, fault_place}
-use Rattle.kn_inputs.specs.Stops.{policy_fault_line}
+use Rattle.kn_inputs.specs.InputFaults.{policy_fault_line}
 use Rattle.kn_endings.proofs.LineParts.{parts_of, fault_parts, prints_line}
 use Rattle.kn_endings.proofs.line.print_fault.Goals as goal
 

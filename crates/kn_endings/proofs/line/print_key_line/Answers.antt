@@ -1,6 +1,6 @@
 use Rattle.std.proofs.Common.{◌≡◌, ◌∙◌, [], ◌++◌, codes}
 use Rattle.std.specs.Prelude.{decimal}
-use Rattle.kn_inputs.specs.Stops.{keys_line}
+use Rattle.kn_inputs.specs.InputFaults.{keys_line}
 use Rattle.kn_endings.proofs.LineParts.{keys_parts, prints_line}
 use Rattle.kn_endings.proofs.line.print_key_line.Goals as goal
 

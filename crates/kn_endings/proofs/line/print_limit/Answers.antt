@@ -1,6 +1,6 @@
 use Rattle.std.proofs.Common.{◌≡◌, ◌∙◌, codes}
 use Rattle.std.specs.Prelude.{decimal}
-use Rattle.kn_inputs.specs.Stops.{limit_line}
+use Rattle.kn_inputs.specs.InputFaults.{limit_line}
 use Rattle.kn_endings.proofs.LineParts.{parts_of, limit_parts, prints_line}
 use Rattle.kn_endings.proofs.line.print_limit.Goals as goal
 

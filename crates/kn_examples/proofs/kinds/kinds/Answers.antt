@@ -1,16 +1,16 @@
 use Rattle.kn_lex.specs.Computed.{tokens_or_fault, tokens_from}
 use Rattle.kn_lex.specs.Literal.{value_behind}
-use Rattle.kn_lex.specs.Scanning.{plain_piece, white_len, colon_len, zero_place, quote_len, stuck_fault}
+use Rattle.kn_lex.specs.Scanning.{plain_lexeme, white_len, colon_len, zero_place, quote_len, stuck_fault}
 use Rattle.kn_fields.specs.Words.{words_of, itself}
 use Rattle.kn_fields.specs.Reading.{tail_at, list_at, taken, named}
 use Rattle.kn_program.specs.Signs.{operation_of, comparison_of, prefix_of, truth_of, number_of}
 use Rattle.kn_program.specs.Trees.{joined, chained}
 use Rattle.kn_program.specs.Reading.{tests_at, negation_at, comparison_at, chain_at, operand_at, atom_at}
-use Rattle.kn_trees.proofs.Kinded.{kinds}
+use Rattle.kn_trees.proofs.ExprKindLaws.{kinds}
 use Rattle.kn_examples.proofs.kinds.kinds.Goals as goal
 
 pub returns : goal.returns
-unfolding tokens_or_fault tokens_from plain_piece white_len colon_len zero_place quote_len stuck_fault
+unfolding tokens_or_fault tokens_from plain_lexeme white_len colon_len zero_place quote_len stuck_fault
     words_of value_behind itself tail_at list_at taken named operation_of comparison_of prefix_of truth_of
     number_of joined chained tests_at negation_at comparison_at chain_at operand_at atom_at
 returns c = record {

@@ -1,7 +1,7 @@
 use Rattle.std.proofs.Common.{refl}
 use Rattle.kn_lex.specs.Computed.{tokens_or_fault, tokens_from}
 use Rattle.kn_lex.specs.Literal.{value_behind}
-use Rattle.kn_lex.specs.Scanning.{plain_piece, white_len, colon_len, zero_place, quote_len, stuck_fault}
+use Rattle.kn_lex.specs.Scanning.{plain_lexeme, white_len, colon_len, zero_place, quote_len, stuck_fault}
 use Rattle.kn_fields.specs.Words.{words_of, itself}
 use Rattle.kn_fields.specs.Reading.{tail_at, list_at, taken, named}
 use Rattle.kn_program.specs.Signs.{operation_of, comparison_of, prefix_of, truth_of, number_of}
@@ -10,12 +10,12 @@ use Rattle.kn_program.specs.Reading.{read_program, tests_at, negation_at, compar
 use Rattle.kn_program.specs.Reading.{operand_at, atom_at, program_at, clause_at}
 use Rattle.kn_env.specs.Environment.{name_value}
 use Rattle.kn_cond.proofs.Meanings.{meanings}
-use Rattle.kn_cond.proofs.Valued.{values}
+use Rattle.kn_cond.proofs.ProgramValues.{values}
 use Rattle.kn_examples.proofs.ClauseValues.{program_clauses_value}
 use Rattle.kn_examples.proofs.programs.clauses.Goals as goal
 
 pub returns : goal.returns
-unfolding tokens_or_fault tokens_from plain_piece white_len colon_len zero_place quote_len stuck_fault
+unfolding tokens_or_fault tokens_from plain_lexeme white_len colon_len zero_place quote_len stuck_fault
     words_of value_behind itself tail_at list_at taken named operation_of comparison_of prefix_of truth_of
     number_of joined chained read_program tests_at negation_at comparison_at chain_at operand_at atom_at
     program_at clause_at name_value

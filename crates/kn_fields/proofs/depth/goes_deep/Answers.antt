@@ -1,5 +1,5 @@
 use Rattle.std.proofs.Common.{arith}
-use Rattle.kn_fields.proofs.Deep.{quiet_step}
+use Rattle.kn_fields.proofs.DepthScan.{quiet_step}
 use Rattle.kn_fields.proofs.depth.goes_deep.Goals as goal
 
 pub loop-i-preserved-in_default-sign_byte : goal.loop-i-preserved-in_default-sign_byte

@@ -1,5 +1,5 @@
 use Rattle.std.proofs.Common.{sym}
-use Rattle.kn_fields.proofs.Deep.{deep_shown, not_deep_shown}
+use Rattle.kn_fields.proofs.DepthScan.{deep_shown, not_deep_shown}
 use Rattle.kn_fields.proofs.laws.depth_is_computed.Goals as goal
 
 pub returns-clause-deep : goal.returns-clause-deep

@@ -1,4 +1,4 @@
-use Rattle.kn_fields.proofs.Told.{told, tokens_alone, fault_alone}
+use Rattle.kn_fields.proofs.ComputedFields.{told, tokens_alone, fault_alone}
 use Rattle.kn_fields.proofs.laws.fields_are_computed.Goals as goal
 
 pub returns-clause-tokens : goal.returns-clause-tokens

@@ -1,5 +1,5 @@
-use Rattle.kn_fields.proofs.Shown.{one_first}
-use Rattle.kn_fields.proofs.Told.{told, every_text}
+use Rattle.kn_fields.proofs.FirstFaults.{one_first}
+use Rattle.kn_fields.proofs.ComputedFields.{told, every_text}
 use Rattle.kn_fields.proofs.laws.no_fault_or_first_fault.Goals as goal
 
 pub returns-clause-some : goal.returns-clause-some

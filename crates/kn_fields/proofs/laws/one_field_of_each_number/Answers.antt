@@ -1,4 +1,4 @@
-use Rattle.kn_fields.proofs.Told.{one_in_text, some_authorizer, listed}
+use Rattle.kn_fields.proofs.ComputedFields.{one_in_text, some_authorizer, listed}
 use Rattle.kn_fields.proofs.laws.one_field_of_each_number.Goals as goal
 
 pub returns-clause-one : goal.returns-clause-one

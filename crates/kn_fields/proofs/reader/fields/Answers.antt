@@ -1,6 +1,6 @@
 use Rattle.std.proofs.Common.{Some, None, inr, sym, ◌∙◌, ap}
 use Rattle.kn_fields.specs.Scanning.{fault_in}
-use Rattle.kn_fields.proofs.Shown.{tokens_tell, no_constant_fault}
+use Rattle.kn_fields.proofs.FirstFaults.{tokens_tell, no_constant_fault}
 use Rattle.kn_fields.proofs.reader.fields.Goals as goal
 
 pub returns-in-Some-clause-fault : goal.returns-in-Some-clause-fault

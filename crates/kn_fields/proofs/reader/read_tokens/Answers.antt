@@ -1,6 +1,6 @@
 use Rattle.std.proofs.Common.{inr}
 use Rattle.std.proofs.lemmas.Result.{err_from_is_err_and}
-use Rattle.kn_fields.proofs.Shown.{too_long, lexical_cause}
+use Rattle.kn_fields.proofs.FirstFaults.{too_long, lexical_cause}
 use Rattle.kn_fields.proofs.reader.read_tokens.Goals as goal
 
 pub returns-in_err-tokens-clause-err : goal.returns-in_err-tokens-clause-err

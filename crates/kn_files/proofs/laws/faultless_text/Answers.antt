@@ -1,4 +1,4 @@
-use Rattle.kn_files.proofs.Whole.{one_span}
+use Rattle.kn_files.proofs.TokenBoundaries.{one_span}
 use Rattle.kn_files.proofs.laws.faultless_text.Goals as goal
 
 pub returns-clause-one : goal.returns-clause-one

@@ -1,4 +1,4 @@
-use Rattle.kn_files.proofs.Silent.{left_out}
+use Rattle.kn_files.proofs.LeftOut.{left_out}
 use Rattle.kn_files.proofs.laws.left_out.Goals as goal
 
 pub returns-clause-neither : goal.returns-clause-neither

@@ -33,8 +33,7 @@ loop-at-preserved c =
     ]
 
 pub returns-clause-spans : goal.returns-clause-spans
-returns-clause-spans c =
-    split_end _ _ _ _ _ _ c.loop-at.invariant c.loop-at-test.false (c.in_ok-push_piece-2.ensures)
+returns-clause-spans c = split_end _ _ _ _ _ _ c.loop-at.invariant c.loop-at-test.false (c.in_ok-push_piece-2.ensures)
 
 pub returns-clause-within : goal.returns-clause-within
 returns-clause-within c =

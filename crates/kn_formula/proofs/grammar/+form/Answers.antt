@@ -90,17 +90,17 @@ one-returns-in_err-of_front-in-Number t c =
 
 pub one-returns-in_ok-of_front-in-Number : goal.one-returns-in_ok-of_front-in-Number
 one-returns-in_ok-of_front-in-Number t c =
-    reads_along c.bracketed.result _
+    reads_along c.read_brackets.result _
     (one_number c.args.budget _ _ c.in-Some.token.now.sort c.in-Some.token.now.text.now _ c.if-budget-eq0.false
     c.in-Some.ensures c.in-Number.is c.in_ok-of_front-in-Number.ensures)
-    (rw c.need_of.ensures at c.bracketed.ensures)
+    (rw c.need_of.ensures at c.read_brackets.ensures)
 
 pub one-returns-then-is_opening : goal.one-returns-then-is_opening
 one-returns-then-is_opening t c =
-    reads_along c.bracketed-then-is_opening.result _
+    reads_along c.read_brackets-then-is_opening.result _
     (one_sign c.args.budget _ _ c.in-Some.token.now.sort c.in-Some.token.now.text.now _ c.if-budget-eq0.false
     c.in-Some.ensures c.in-Sign.is (is_itself _ _ (sym c.is_opening.ensures ∙ c.if-is_opening.true)))
-    c.bracketed-then-is_opening.ensures
+    c.read_brackets-then-is_opening.ensures
 
 pub one-returns-else-is_opening : goal.one-returns-else-is_opening
 one-returns-else-is_opening t c =

@@ -15,8 +15,8 @@ decreases-item l = 3 * l.budget + 1
 abbrev pub decreases-one : goal.decreases-one
 decreases-one l = 3 * l.budget
 
-abbrev pub decreases-bracketed : goal.decreases-bracketed
-decreases-bracketed l = 3 * l.budget + 1
+abbrev pub decreases-read_brackets : goal.decreases-read_brackets
+decreases-read_brackets l = 3 * l.budget + 1
 
 -- the parts so far with those that are read from here on are all
 abbrev pub invariant-more_parts-loop-left : goal.invariant-more_parts-loop-left

@@ -1,7 +1,7 @@
 use Rattle.std.proofs.Common.{List, Ok, Err, sym, subst, ◌∙◌}
 use Rattle.kn_env.specs.declared.constant.Constant.{Constant}
 use Rattle.kn_formula.specs.Naming.{Names}
-use Rattle.kn_formula.proofs.Judged.{nothing_given, judged_by, unread_given, threshold_given, formula_given}
+use Rattle.kn_formula.proofs.Judged.{nothing_given, judged_by, grammar_fault_given, threshold_given, formula_given}
 use Rattle.kn_formula.proofs.Judged.{fault_given}
 use Rattle.kn_formula.proofs.reader.read_licensees.Goals as goal
 
@@ -11,7 +11,7 @@ returns-then-len-eq0 c = nothing_given c.args.constants.now _ _ c.of_field-curso
 
 pub returns-in-Err : goal.returns-in-Err
 returns-in-Err c =
-    unread_given c.args.constants.now _ _ c.in-Err.unread c.from.result
+    grammar_fault_given c.args.constants.now _ _ c.in-Err.grammar_fault c.from.result
     (judged_by c.args.constants.now _ _ c.of_field-cursor.ensures
     (λ none. c.if-len-eq0.false (c.len.ensures ∙ none)))
     c.in-Err.ensures c.from.ensures

@@ -1,4 +1,4 @@
-use Rattle.kn_laws.proofs.Fewer.{fewer-lower_all, fewer-never_raise}
+use Rattle.kn_laws.proofs.FewerAssertions.{fewer-lower_all, fewer-never_raise}
 use Rattle.kn_laws.proofs.laws.fewer_never_raise.Goals as goal
 
 pub returns-clause-all : goal.returns-clause-all

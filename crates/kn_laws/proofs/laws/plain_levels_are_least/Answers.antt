@@ -1,6 +1,6 @@
 use Rattle.std.proofs.Common.{refl}
 use Rattle.kn_meaning.specs.Tables.{level_in, last_table}
-use Rattle.kn_laws.proofs.Tabled.{table-is_least}
+use Rattle.kn_laws.proofs.PlainTables.{table-is_least}
 use Rattle.kn_laws.proofs.laws.plain_levels_are_least.Goals as goal
 
 pub returns-clause-least : goal.returns-clause-least

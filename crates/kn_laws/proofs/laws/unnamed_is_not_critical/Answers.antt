@@ -1,4 +1,4 @@
-use Rattle.kn_laws.proofs.Unnamed.{rows-stay_a_proof, unnamed-is_not_critical, critical-is_one}
+use Rattle.kn_laws.proofs.UnnamedAssertions.{rows-stay_a_proof, unnamed-is_not_critical, critical-is_one}
 use Rattle.kn_laws.proofs.laws.unnamed_is_not_critical.Goals as goal
 
 pub returns-clause-rows : goal.returns-clause-rows

@@ -1,4 +1,4 @@
-use Rattle.kn_laws.proofs.Followed.{ends_proof-Decides}
+use Rattle.kn_laws.proofs.PlainProofs.{ends_proof-Decides}
 use Rattle.kn_laws.proofs.plain.is_proof.Goals as goal
 
 pub returns : goal.returns

@@ -1,4 +1,4 @@
-use Rattle.kn_lex.proofs.Finished.{tokens_finished, finished_tokens}
+use Rattle.kn_lex.proofs.WholeLists.{tokens_finished, finished_tokens}
 use Rattle.kn_lex.proofs.laws.finished_list.Goals as goal
 
 pub returns : goal.returns

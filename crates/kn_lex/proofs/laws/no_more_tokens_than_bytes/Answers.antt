@@ -1,4 +1,4 @@
-use Rattle.kn_lex.proofs.Told.{fewer_tokens}
+use Rattle.kn_lex.proofs.ComputedTokens.{fewer_tokens}
 use Rattle.kn_lex.proofs.laws.no_more_tokens_than_bytes.Goals as goal
 
 pub returns : goal.returns

@@ -1,4 +1,4 @@
-use Rattle.kn_lex.proofs.Told.{tokens_told, cuts_told, fault_told, first_told}
+use Rattle.kn_lex.proofs.ComputedTokens.{tokens_told, cuts_told, fault_told, first_told}
 use Rattle.kn_lex.proofs.laws.tokens_are_computed.Goals as goal
 
 pub returns-clause-tokens : goal.returns-clause-tokens

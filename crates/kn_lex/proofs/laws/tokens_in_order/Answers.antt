@@ -1,5 +1,5 @@
 use Rattle.kn_lex.proofs.Order.{in_order}
-use Rattle.kn_lex.proofs.Finished.{first_of_lines}
+use Rattle.kn_lex.proofs.WholeLists.{first_of_lines}
 use Rattle.kn_lex.proofs.laws.tokens_in_order.Goals as goal
 
 pub returns-clause-order : goal.returns-clause-order

@@ -1,4 +1,4 @@
-use Rattle.kn_lex.proofs.Along.{every_text, one_list, one_fault}
+use Rattle.kn_lex.proofs.LexerStates.{every_text, one_list, one_fault}
 use Rattle.kn_lex.proofs.laws.tokens_or_first_fault.Goals as goal
 
 pub returns-clause-some : goal.returns-clause-some

@@ -1,7 +1,7 @@
 use Rattle.std.proofs.Common.{◌≡◌, ◌≤◌, ◌-◌, length, drop, map, true, false}
 use Rattle.kn_lex.specs.Faults.{goes_on}
-use Rattle.kn_lex.specs.Seeing.{seen}
-use Rattle.kn_lex.proofs.Along.{IsReached, to_do}
+use Rattle.kn_lex.specs.TokenViews.{token_view}
+use Rattle.kn_lex.proofs.LexerStates.{IsReached, to_do}
 use Rattle.kn_lex.proofs.lexer.tokens.Given as goal
 
 abbrev pub invariant-loop-at : goal.invariant-loop-at
@@ -9,7 +9,7 @@ invariant-loop-at l =
     record {
       within : l.at ≤ length l.text;
       room : length l.text - l.at ≤ l.list.spare;
-      reached : IsReached l.text l.place l.at (map seen l.list.items);
+      reached : IsReached l.text l.place l.at (map token_view l.list.items);
       settled : l.settled ≡ true → goes_on false (drop l.at l.text) ≡ false;
     }
 

@@ -12,15 +12,16 @@ returns-in-Err-clause-stopped g c = λ front texts rest are l at.
 
 pub returns-in-Some-clause-stopped : goal.returns-in-Some-clause-stopped
 returns-in-Some-clause-stopped g c = λ front texts rest are l at.
-    let loaded = loaded_more front c.args.readings.readies.items c.args.registry.now c.args.root.now c.add_all.new.pass
+    let loaded = loaded_more front c.args.readings.ready_texts.items c.args.registry.now c.args.root.now
+    c.add_all.new.pass
     l c.in-Ok.ensures.sound c.in-Ok.ensures.ready c.in-Ok.ensures.added in
     faulty_there texts c.args.readings are front rest loaded.loadable c.args.before c.in-Some.fault
     c.stop_by_fault.result at c.in-Some.is
-    (rw (c.len.ensures, c.args.readings.readies.ok.0) at c.stop_by_fault.ensures)
+    (rw (c.len.ensures, c.args.readings.ready_texts.ok.0) at c.stop_by_fault.ensures)
 
 pub returns-in-None-clause-loaded : goal.returns-in-None-clause-loaded
 returns-in-None-clause-loaded g c = λ front texts are l.
     subst (λ (t : List (List ℕ)). IsLoaded (front ++ t) c.args.registry.now c.add_all.new.pass)
     (all_read texts c.args.readings are c.in-None.is)
-    (loaded_more front c.args.readings.readies.items c.args.registry.now c.args.root.now c.add_all.new.pass l
+    (loaded_more front c.args.readings.ready_texts.items c.args.registry.now c.args.root.now c.add_all.new.pass l
     c.in-Ok.ensures.sound c.in-Ok.ensures.ready c.in-Ok.ensures.added)

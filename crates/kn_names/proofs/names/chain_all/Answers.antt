@@ -1,7 +1,7 @@
 use Rattle.std.proofs.Common.{ℕ, ◌≡◌, ◌+◌, ◌<◌, ◌∙◌, List, get_or, length, slice_set, sym, ap, refl, arith}
 use Rattle.std.proofs.lemmas.List.{get_or_read, get_or-set_other, get_or-set_same, length-set}
 use Rattle.kn_names.specs.Chains.{home_at, home_of}
-use Rattle.kn_names.proofs.Chained.{chained_next, named}
+use Rattle.kn_names.proofs.Chains.{chained_next, named}
 use Rattle.kn_names.proofs.names.chain_all.Goals as goal
 
 pub loop-number-preserved : goal.loop-number-preserved

@@ -1,6 +1,6 @@
 use Rattle.std.proofs.Common.{◌∙◌, sym}
 use Rattle.kn_session.specs.Calls.{call_of}
-use Rattle.kn_play.proofs.Refused.{accepted, refused}
+use Rattle.kn_play.proofs.CallRefusals.{accepted, refused}
 use Rattle.kn_play.proofs.applying.apply_call.Goals as goal
 
 pub apply-requires : goal.apply-requires

@@ -4,7 +4,7 @@ use Rattle.std.specs.Arc.{arc_value}
 use Rattle.kn_history.specs.declared.update.Update.{Update}
 use Rattle.kn_history.specs.Retained.{retained_version}
 use Rattle.kn_play.specs.Playing.{state_of_sessions}
-use Rattle.kn_play.proofs.Retained.{after_pin, not-retained}
+use Rattle.kn_play.proofs.RetainedPins.{after_pin, not-retained}
 use Rattle.kn_play.proofs.applying.repin_at.Goals as goal
 
 pub returns-in-Some : goal.returns-in-Some

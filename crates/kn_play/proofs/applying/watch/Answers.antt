@@ -1,7 +1,7 @@
 use Rattle.kn_play.specs.Playing.{state_of_sessions, AsksFor}
 use Rattle.std.proofs.Common.{Some, subst}
 use Rattle.kn_daemon.specs.Shapes.{Asks, WithProof}
-use Rattle.kn_play.proofs.Watched.{asked-kept}
+use Rattle.kn_play.proofs.StandingQueries.{asked-kept}
 use Rattle.kn_play.proofs.applying.watch.Goals as goal
 
 pub returns-in-Ok : goal.returns-in-Ok

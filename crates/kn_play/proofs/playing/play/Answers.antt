@@ -1,8 +1,8 @@
 use Rattle.std.proofs.Common.{◌≡◌, ◌+◌, [], ◌∷◌, ◌++◌, sym, subst, arith}
 use Rattle.kn_wire.specs.Feeds.{held}
 use Rattle.kn_play.specs.Playing.{IsPlayed, IsBeingPlayed, TakesOne}
-use Rattle.kn_play.proofs.Underway.{has-room, is-dry, is-taken, finished-dry, finished-last, goes-further}
-use Rattle.kn_play.proofs.Underway.{finished-most}
+use Rattle.kn_play.proofs.ScriptLoops.{has-room, is-dry, is-taken, finished-dry, finished-last, goes-further}
+use Rattle.kn_play.proofs.ScriptLoops.{finished-most}
 use Rattle.kn_play.proofs.playing.play.Goals as goal
 
 -- src/playing.rt:44:15

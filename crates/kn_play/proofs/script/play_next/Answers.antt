@@ -1,7 +1,7 @@
 use Rattle.std.proofs.Common.{None, sym, ◌∙◌, subst}
 use Rattle.kn_wire.specs.Feeds.{held}
 use Rattle.kn_play.specs.Playing.{IsFed, PlaysNext}
-use Rattle.kn_play.proofs.Underway.{next-taken, next-dry}
+use Rattle.kn_play.proofs.ScriptLoops.{next-taken, next-dry}
 use Rattle.kn_play.proofs.script.play_next.Goals as goal
 
 -- src/script.rt:32:27
@@ -29,9 +29,9 @@ pieces-preserved c =
     (held c.answer_next.new.feed)) c.in-None.is c.in_ok-step.ensures in
     record {
       same = a.2 ∙ c.pieces.invariant.same;
-      within = c.push_piece.ensures.within;
+      within = c.push_chunk.ensures.within;
       fed = λ requests fed.
-          c.push_piece.ensures.fed requests
+          c.push_chunk.ensures.fed requests
           (subst (λ h. IsFed c.args.script.now c.pieces.from h requests) (sym a.1)
           (c.pieces.invariant.fed requests fed));
     }

@@ -1,5 +1,5 @@
 use Rattle.kn_proof.proofs.Exists.{reply_or_fault}
-use Rattle.kn_proof.proofs.Only.{one_first_fault, one_reply, reply_without_fault}
+use Rattle.kn_proof.proofs.OneReplyOrFault.{one_first_fault, one_reply, reply_without_fault}
 use Rattle.kn_proof.proofs.laws.one_reply_or_fault.Goals as goal
 
 pub returns-clause-each : goal.returns-clause-each

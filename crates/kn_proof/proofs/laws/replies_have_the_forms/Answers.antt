@@ -1,5 +1,5 @@
 use Rattle.std.proofs.Common.{refl}
-use Rattle.kn_proof.proofs.Written.{header_texts, header_form, header_range, row_texts, row_form, row_range}
+use Rattle.kn_proof.proofs.LineTexts.{header_texts, header_form, header_range, row_texts, row_form, row_range}
 use Rattle.kn_proof.proofs.laws.replies_have_the_forms.Goals as goal
 
 pub returns-clause-header : goal.returns-clause-header

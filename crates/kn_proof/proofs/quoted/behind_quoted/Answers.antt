@@ -1,4 +1,4 @@
-use Rattle.kn_proof.proofs.Scanned.{quoted_more}
+use Rattle.kn_proof.proofs.ScanLaws.{quoted_more}
 use Rattle.kn_proof.proofs.quoted.behind_quoted.Goals as goal
 
 pub bytes-preserved : goal.bytes-preserved

@@ -1,4 +1,4 @@
-use Rattle.kn_proof.proofs.Whole.{reply_told, fault_told}
+use Rattle.kn_proof.proofs.WholeReplies.{reply_told, fault_told}
 use Rattle.kn_proof.proofs.reader.read.Goals as goal
 
 pub returns-in-Ok-clause-ok : goal.returns-in-Ok-clause-ok

@@ -1,4 +1,4 @@
-use Rattle.kn_proof.proofs.Whole.{more_rows}
+use Rattle.kn_proof.proofs.WholeReplies.{more_rows}
 use Rattle.kn_proof.proofs.reader.read_rows.Goals as goal
 
 pub rows-preserved : goal.rows-preserved

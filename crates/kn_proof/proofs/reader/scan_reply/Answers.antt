@@ -1,6 +1,6 @@
 use Rattle.std.proofs.Common.{refl}
-use Rattle.kn_proof.proofs.Scanned.{head_of}
-use Rattle.kn_proof.proofs.Whole.{fault_from}
+use Rattle.kn_proof.proofs.ScanLaws.{head_of}
+use Rattle.kn_proof.proofs.WholeReplies.{fault_from}
 use Rattle.kn_proof.proofs.reader.scan_reply.Goals as goal
 
 pub returns-in-Ok-scan_rows-clause-ok : goal.returns-in-Ok-scan_rows-clause-ok

@@ -1,4 +1,4 @@
-use Rattle.kn_proof.proofs.Scanned.{counted_more, end_behind, few_more}
+use Rattle.kn_proof.proofs.ScanLaws.{counted_more, end_behind, few_more}
 use Rattle.kn_proof.proofs.reader.scan_rows.Goals as goal
 
 pub returns-in-Some-clause-err : goal.returns-in-Some-clause-err

@@ -1,6 +1,6 @@
 use Rattle.std.proofs.Common.{inl, inr, refl, sym}
 use Rattle.kn_proof.proofs.Lines.{no_row_form, not_closed, large_row}
-use Rattle.kn_proof.proofs.Scanned.{row_at}
+use Rattle.kn_proof.proofs.ScanLaws.{row_at}
 use Rattle.kn_proof.proofs.row_line.scan_row.Goals as goal
 use Rattle.kn_proof.proofs.row_line.scan_row.Goals.{then-not-is_numeral-via-then-not-is_numeral}
 use Rattle.kn_proof.proofs.row_line.scan_row.Goals.{then-not-is_numeral-via-else-not-is_numeral+then-not-is_id}

@@ -1,5 +1,5 @@
 use Rattle.std.specs.Prelude.{option_map}
-use Rattle.kn_reply_reader.specs.Kinds.{OneLine, Proved, Told, Needed}
+use Rattle.kn_reply_reader.specs.Kinds.{OneLine, Proved, NewsKind, CriticalKind}
 use Rattle.kn_reply_reader.proofs.AnyLaws.{any_last, any_some}
 use Rattle.kn_reply_reader.proofs.replies.behind_any_reply.Goals as goal
 
@@ -12,11 +12,11 @@ returns-in-Some-behind_value c =
 
 pub returns-in-Some-behind_news : goal.returns-in-Some-behind_news
 returns-in-Some-behind_news c =
-    any_some c.args.left.now Told c.in-Some-behind_news.rest.now c.in-Some-behind_news.ensures
+    any_some c.args.left.now NewsKind c.in-Some-behind_news.rest.now c.in-Some-behind_news.ensures
 
 pub returns-in-Some-behind_critical : goal.returns-in-Some-behind_critical
 returns-in-Some-behind_critical c =
-    any_some c.args.left.now Needed c.in-Some-behind_critical.rest.now c.in-Some-behind_critical.ensures
+    any_some c.args.left.now CriticalKind c.in-Some-behind_critical.rest.now c.in-Some-behind_critical.ensures
 
 pub returns : goal.returns
 returns c =

@@ -3,6 +3,6 @@ use Rattle.kn_serve.proofs.answering.refuse.Goals as goal
 
 pub returns : goal.returns
 returns g c = record {
-  told = λ g' now. faulty_told g' _ now _ _ c.args.fault c.refusal_of_fault.result c.refusal_of_fault.ensures
+  exact = λ g' now. faulty_told g' _ now _ _ c.args.fault c.refusal_of_fault.result c.refusal_of_fault.ensures
       c.print.ensures;
 }

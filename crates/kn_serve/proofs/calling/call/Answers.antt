@@ -10,7 +10,8 @@ pub returns-in-Ok : goal.returns-in-Ok
 returns-in-Ok g c =
     let old = c.args.connection.now in
     record {
-      told = λ g'. call_done g' old.sessions c.apply.new.self old.is_admin _ _ _ _ _ c.in-Ok.applied
+      forgotten = c.forget.ensures;
+      exact = λ g'. call_done g' old.sessions c.apply.new.self old.is_admin _ _ _ _ _ c.in-Ok.applied
           c.in-Ok.ensures.ok c.print_applied.ensures.prints;
     }
 
@@ -18,6 +19,7 @@ pub returns-in-Err : goal.returns-in-Err
 returns-in-Err g c =
     let old = c.args.connection.now in
     record {
-      told = λ g'. call_refused g' old.sessions c.apply.new.self old.is_admin _ _ _ _ _ c.in-Err.fault _
+      forgotten = c.forget.ensures;
+      exact = λ g'. call_refused g' old.sessions c.apply.new.self old.is_admin _ _ _ _ _ c.in-Err.fault _
           c.in-Err.ensures.err c.refusal_of_call.ensures c.print_refusal.ensures.prints;
     }

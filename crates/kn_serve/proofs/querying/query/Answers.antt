@@ -8,14 +8,14 @@ use Rattle.kn_serve.proofs.LastLaws.{last-found}
 use Rattle.kn_serve.proofs.QueryingLaws.{question_refused, query_answered}
 use Rattle.kn_serve.proofs.querying.query.Goals as goal
 
-pub returns-in-Some-clause-told : goal.returns-in-Some-clause-told
-returns-in-Some-clause-told g c = λ g'.
+pub returns-in-Some-clause-exact : goal.returns-in-Some-clause-exact
+returns-in-Some-clause-exact g c = λ g'.
     let is = c.in-Some.ensures in
     query_answered g' _ (state_of c.args.connection.now) c.args.s c.args.names.now _ _ is.session c.in-Some.values.now
     is.found is.named c.in-Some.version c.in-Some.answer.now is.right is.at c.tell_answer.ensures.prints
 
-pub returns-in-Err-clause-told : goal.returns-in-Err-clause-told
-returns-in-Err-clause-told g c = λ g'.
+pub returns-in-Err-clause-exact : goal.returns-in-Err-clause-exact
+returns-in-Err-clause-exact g c = λ g'.
     question_refused g' WithProof _ (state_of c.args.connection.now) c.args.s c.args.names.now _ _ _
     c.in-Err.ensures.refused c.print_refusal.ensures.prints
 
@@ -47,8 +47,8 @@ returns-clause-last g c = λ history pinned before.
       below = c.in-Ok-answer_query.ensures.below;
     }) c.keep.ensures history pinned
 
-pub returns-clause-told : goal.returns-clause-told
-returns-clause-told g c = λ g'.
+pub returns-clause-exact : goal.returns-clause-exact
+returns-clause-exact g c = λ g'.
     query_answered g' _ (state_of c.args.connection.now) c.args.s c.args.names.now _ _
     (session_of_view c.in-Ok.asked.0) c.in-Ok.asked.1 c.in-Ok.ensures.session c.in-Ok.ensures.named _
     c.in-Ok-answer_query.answer
@@ -57,4 +57,4 @@ returns-clause-told g c = λ g'.
       least = c.in-Ok-answer_query.ensures.least;
       below = c.in-Ok-answer_query.ensures.below;
     }) (c.number-version.ensures.number ∙ ap (λ (x : List Update). length x) c.deref.ensures)
-    c.tell_answer-told.ensures.prints
+    c.tell_answer-written.ensures.prints

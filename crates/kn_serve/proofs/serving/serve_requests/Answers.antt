@@ -46,11 +46,11 @@ returns-in-SaidBye-clause-serves g c =
     serves_bye _ _ _ _ _ _ i.2 c.serving_ends.ensures.bye _ _ i.1 c.in-SaidBye.ensures.stepped
     c.in-SaidBye.ensures.ready.valid
 
-pub returns-in-Blocked-clause-serves : goal.returns-in-Blocked-clause-serves
-returns-in-Blocked-clause-serves g c =
+pub returns-in-BlockRefused-clause-serves : goal.returns-in-BlockRefused-clause-serves
+returns-in-BlockRefused-clause-serves g c =
     let i = c.requests.invariant in
-    serves_block _ _ _ _ _ _ i.2 c.serving_ends.ensures.block _ _ _ i.1 c.in-Blocked.ensures.stepped
-    c.in-Blocked.ensures.ready.valid
+    serves_block _ _ _ _ _ _ i.2 c.serving_ends.ensures.block _ _ _ i.1 c.in-BlockRefused.ensures.stepped
+    c.in-BlockRefused.ensures.ready.valid
 
 pub returns-in-WriteFailed-clause-serves : goal.returns-in-WriteFailed-clause-serves
 returns-in-WriteFailed-clause-serves g c =
@@ -61,33 +61,33 @@ returns-in-WriteFailed-clause-serves g c =
 pub requests-preserved : goal.requests-preserved
 requests-preserved g c =
     let i = c.requests.invariant in
-    let t = c.in-Dry.ensures.stepped in
+    let t = c.in-NoRequest.ensures.stepped in
     let f = c.in-More.ensures in
     let s = serving_still _ _ _ _ _ _ i.2 _ _ t.1 t.2 in (
-      c.in-Dry.ensures.ready,
+      c.in-NoRequest.ensures.ready,
       i.1,
       serving_reads _ _ _ _ _ _ s c.serving_takes.ensures _ _ f.0 f.1 f.2,
-      c.in-Dry.ensures.of_history,
-      c.in-Dry.ensures.last,
+      c.in-NoRequest.ensures.of_history,
+      c.in-NoRequest.ensures.last,
     )
 
 pub returns-in-Failed-clause-serves : goal.returns-in-Failed-clause-serves
 returns-in-Failed-clause-serves g c =
     let i = c.requests.invariant in
-    let t = c.in-Dry.ensures.stepped in
+    let t = c.in-NoRequest.ensures.stepped in
     let f = c.in-Failed.ensures in
     let s = serving_still _ _ _ _ _ _ i.2 _ _ t.1 t.2 in
     serves_read _ _ _ _ _ _ s c.serving_stops.ensures.dry _ i.1 (none_still _ _ t.0 t.1)
-    c.in-Dry.ensures.ready.valid f.1 f.2
+    c.in-NoRequest.ensures.ready.valid f.1 f.2
 
 pub returns-in-End-clause-serves : goal.returns-in-End-clause-serves
 returns-in-End-clause-serves g c =
     let i = c.requests.invariant in
-    let t = c.in-Dry.ensures.stepped in
+    let t = c.in-NoRequest.ensures.stepped in
     let f = c.in-End.ensures in
     let s = serving_still _ _ _ _ _ _ i.2 _ _ t.1 t.2 in
     serves_end _ _ _ _ _ _ s c.serving_stops.ensures.dry _ i.1 (none_still _ _ t.0 t.1)
-    c.in-Dry.ensures.ready.valid _ f.1 f.2 (end_still _ _ _ f.0 c.end_of.ensures)
+    c.in-NoRequest.ensures.ready.valid _ f.1 f.2 (end_still _ _ _ f.0 c.end_of.ensures)
 
 pub answer_next-requires-clause-room : goal.answer_next-requires-clause-room
 answer_next-requires-clause-room g c =

@@ -31,7 +31,7 @@ returns-clause-handled g c = λ g'.
     c.in-Ok.ensures.query c.in-Ok-pin.ensures.looked c.in-Ok-pin.ensures.version c.view_over-view.ensures.session
     c.values.ensures c.in-Ok-answer_query.ensures.least
     (c.number.ensures.number ∙ ap (λ (x : List Update). length x) c.deref.ensures)
-    c.in-Ok-move_standing.ensures.ok c.tell_news-told.ensures.prints
+    c.in-Ok-move_standing.ensures.ok c.tell_news-written.ensures.prints
 
 pub answer_query-requires-clause-of_history : goal.answer_query-requires-clause-of_history
 answer_query-requires-clause-of_history g c =

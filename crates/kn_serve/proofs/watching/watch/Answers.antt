@@ -12,28 +12,31 @@ use Rattle.kn_serve.proofs.watching.watch.Goals as goal
 
 pub returns-in-Err : goal.returns-in-Err
 returns-in-Err g c = record {
+  forgotten = c.forget.ensures;
   stays = λ history pinned is. is;
-  told = λ g'. question_refused g' ToKeep _ (state_of c.args.connection.now) c.args.s c.args.names.now _ _ _
+  exact = λ g'. question_refused g' ToKeep _ (state_of c.args.connection.now) c.args.s c.args.names.now _ _ _
       c.in-Err.ensures.refused c.print_refusal.ensures.prints;
 }
 
 pub returns-in-Err-answer_query : goal.returns-in-Err-answer_query
 returns-in-Err-answer_query g c = record {
+  forgotten = c.forget.ensures;
   stays = λ history pinned is.
       kept-after (session_of_view c.in-Ok.asked.0).pinned history _ _
       (pinned c.args.s (session_of_view c.in-Ok.asked.0) c.in-Ok.ensures.session) c.answer_query.ensures.of_version
       is;
-  told = λ g'. told_memory g' (Asks ToKeep c.args.s c.args.names.now) _ (state_of c.args.connection.now) _ _ refl
+  exact = λ g'. told_memory g' (Asks ToKeep c.args.s c.args.names.now) _ (state_of c.args.connection.now) _ _ refl
       c.print.ensures;
 }
 
 pub returns-in-Err-watch : goal.returns-in-Err-watch
 returns-in-Err-watch g c = record {
+  forgotten = c.forget.ensures;
   stays = λ history pinned is.
       kept-after (session_of_view c.in-Ok.asked.0).pinned history _ _
       (pinned c.args.s (session_of_view c.in-Ok.asked.0) c.in-Ok.ensures.session) c.answer_query.ensures.of_version
       is;
-  told = λ g'. watch_unkept g' _ c.args.connection.now.sessions c.watch.new.self c.args.connection.now.is_admin
+  exact = λ g'. watch_unkept g' _ c.args.connection.now.sessions c.watch.new.self c.args.connection.now.is_admin
       c.args.s c.args.names.now _ _ c.in-Err-watch.ensures.err c.print-in-Err-watch.ensures;
 }
 
@@ -60,11 +63,12 @@ returns g c =
     let there = c.in-Ok.ensures.session in
     let after = c.in-Ok-watch.ensures.ok in
     record {
+      forgotten = c.forget.ensures;
       stays = λ history pinned is.
           kept-after (session_of_view c.in-Ok.asked.0).pinned history _ _
           (pinned c.args.s (session_of_view c.in-Ok.asked.0) c.in-Ok.ensures.session)
           c.answer_query.ensures.of_version is;
-      told = λ g'. watch_answered g' _ a b c.args.connection.now.is_admin c.args.s c.args.names.now _ _ session
+      exact = λ g'. watch_answered g' _ a b c.args.connection.now.is_admin c.args.s c.args.names.now _ _ session
           c.in-Ok.asked.1 _ _ _ there c.in-Ok.ensures.named c.in-Ok-answer_query.ensures.least
           (c.number-version.ensures.number ∙ ap (λ (x : List Update). length x) c.deref.ensures) after
           (kept_is a b c.args.s session c.in-Ok.asked.1 there after _ c.in-Ok-standing.ensures.query)

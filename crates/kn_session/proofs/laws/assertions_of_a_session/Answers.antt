@@ -1,4 +1,4 @@
-use Rattle.kn_session.proofs.Together.{texts_are_short, ids_differ, privates_are_read}
+use Rattle.kn_session.proofs.SessionTexts.{texts_are_short, ids_differ, privates_are_read}
 use Rattle.kn_session.proofs.laws.assertions_of_a_session.Goals as goal
 
 pub returns : goal.returns

@@ -1,6 +1,6 @@
 use Rattle.std.proofs.Common.{◌≡◌, length, [], Err, ap, ◌∙◌, arith}
 use Rattle.kn_env.specs.Environment.{IsPrincipalSize}
-use Rattle.kn_session.proofs.Naming.{principal_size}
+use Rattle.kn_session.proofs.Requesters.{principal_size}
 use Rattle.kn_session.proofs.session.normal_of.Goals as goal
 
 pub returns-in-Err-Empty : goal.returns-in-Err-Empty

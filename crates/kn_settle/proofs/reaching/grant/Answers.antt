@@ -3,7 +3,7 @@ use Rattle.kn_proof.specs.declared.row.Row.{Row as ProofRow}
 use Rattle.kn_system.specs.Equations.{SystemEquations}
 use Rattle.kn_system.specs.Lawful.{IsGranted}
 use Rattle.kn_system.specs.Settled.{IsSettled, unsettled}
-use Rattle.kn_settle.proofs.Granted.{settled_read, fewer_read}
+use Rattle.kn_settle.proofs.RowGrants.{settled_read, fewer_read}
 use Rattle.kn_settle.proofs.reaching.grant.Goals as goal
 
 pub returns-in-Ok-reach-clause-settled : goal.returns-in-Ok-reach-clause-settled

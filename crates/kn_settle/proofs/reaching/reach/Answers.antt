@@ -1,7 +1,7 @@
 use Rattle.std.proofs.Common.{◌≡◌, ◌<◌, ℕ, List, length, slice_set, slice_index, sym, subst, arith}
 use Rattle.kn_system.specs.Equations.{SystemEquations}
 use Rattle.kn_settle.specs.Counters.{AreVisited, AreWaiting, IsUsed}
-use Rattle.kn_settle.proofs.Levelled.{visit-begins, waits-level, visit-used, level-now}
+use Rattle.kn_settle.proofs.PrincipalLevels.{visit-begins, waits-level, visit-used, level-now}
 use Rattle.kn_settle.proofs.reaching.reach.Goals as goal
 
 pub returns-in-Ok-visit-clause-reaches : goal.returns-in-Ok-visit-clause-reaches

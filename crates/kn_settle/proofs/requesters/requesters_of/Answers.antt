@@ -1,6 +1,6 @@
 use Rattle.std.proofs.Common.{◌≡◌, ◌+◌, ℕ, true, false, sym, ◌∙◌, subst, arith, rules}
 use Rattle.kn_system.specs.Equations.{SystemEquations}
-use Rattle.kn_settle.proofs.Flagged.{AreRequestersBelow, requesters-flags, requesters-more, requesters-other}
+use Rattle.kn_settle.proofs.RequesterLists.{AreRequestersBelow, requesters-flags, requesters-more, requesters-other}
 use Rattle.kn_settle.proofs.requesters.requesters_of.Goals.{then-is_requester+in-Ok, else-is_requester}
 use Rattle.kn_settle.proofs.requesters.requesters_of.Goals as goal
 

@@ -1,4 +1,4 @@
-use Rattle.kn_settle.proofs.Flagged.{AreRequestersBelow}
+use Rattle.kn_settle.proofs.RequesterLists.{AreRequestersBelow}
 use Rattle.kn_settle.proofs.requesters.requesters_of.Given as goal
 
 abbrev pub invariant-loop-principal : goal.invariant-loop-principal

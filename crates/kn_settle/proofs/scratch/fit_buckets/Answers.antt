@@ -1,6 +1,6 @@
 use Rattle.std.proofs.Common.{◌≡◌, ℕ, List, [], length, replicate, take, sym, ap, subst, arith}
 use Rattle.std.proofs.lemmas.List.{length-take}
-use Rattle.kn_settle.proofs.Trailed.{same-taken}
+use Rattle.kn_settle.proofs.Trails.{same-taken}
 use Rattle.kn_settle.proofs.scratch.fit_buckets.Goals as goal
 
 pub loop-alloc-init : goal.loop-alloc-init

@@ -1,7 +1,7 @@
 use Rattle.std.proofs.Common.{◌≡◌, ◌<◌, ℕ, List, length, slice_index, slice_set, ap, ◌∙◌, arith}
 use Rattle.std.proofs.lemmas.List.{get_or_default}
 use Rattle.kn_system.specs.Equations.{SystemEquations}
-use Rattle.kn_settle.proofs.Begun.{begun-had, begun-set}
+use Rattle.kn_settle.proofs.FirstLevels.{begun-had, begun-set}
 use Rattle.kn_settle.proofs.settling.reach_requester.Goals as goal
 
 pub returns-then-index-gt0-clause-begun : goal.returns-then-index-gt0-clause-begun

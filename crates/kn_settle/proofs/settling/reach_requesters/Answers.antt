@@ -1,6 +1,6 @@
 use Rattle.std.proofs.Common.{ℕ, get_or, refl, ◌∙◌, arith}
 use Rattle.kn_system.specs.Equations.{SystemEquations}
-use Rattle.kn_settle.proofs.Begun.{begun-all, begun-next}
+use Rattle.kn_settle.proofs.FirstLevels.{begun-all, begun-next}
 use Rattle.kn_settle.proofs.settling.reach_requesters.Goals as goal
 
 pub loop-place-preserved : goal.loop-place-preserved

@@ -1,7 +1,7 @@
 use Rattle.std.proofs.Common.{◌≡◌, length, take}
-use Rattle.kn_settle.proofs.Emptied.{Continues}
+use Rattle.kn_settle.proofs.BucketSettling.{Continues}
 use Rattle.kn_settle.specs.Blank.{AreTrailed}
-use Rattle.kn_settle.specs.Begun.{AreBegun}
+use Rattle.kn_settle.specs.FirstLevels.{AreBegun}
 use Rattle.kn_settle.proofs.settling.reach_requesters.Given as goal
 
 abbrev pub invariant-loop-place : goal.invariant-loop-place

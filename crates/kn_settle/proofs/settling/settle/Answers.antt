@@ -5,8 +5,8 @@ use Rattle.kn_system.specs.Least.{at_first, least_levels}
 use Rattle.kn_system.specs.Proofs.{levels_after, HasOneRowEach, IsProof}
 use Rattle.kn_settle.specs.Blank.{Sizes}
 use Rattle.kn_settle.specs.Counters.{most_ticks}
-use Rattle.kn_settle.proofs.Flagged.{own-low, own-query}
-use Rattle.kn_settle.proofs.Trailed.{blank-same}
+use Rattle.kn_settle.proofs.RequesterLists.{own-low, own-query}
+use Rattle.kn_settle.proofs.Trails.{blank-same}
 use Rattle.kn_settle.proofs.settling.settle.Goals as goal
 
 pub of-query-requires-clause-low : goal.of-query-requires-clause-low

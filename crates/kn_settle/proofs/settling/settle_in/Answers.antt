@@ -2,10 +2,10 @@ use Rattle.std.proofs.Common.{◌≡◌, ◌-◌, ◌<◌, ℕ, Bool, false, Lis
 use Rattle.std.proofs.lemmas.List.{get_or_default, length-replicate}
 use Rattle.kn_system.specs.Equations.{SystemEquations, node_total}
 use Rattle.kn_settle.specs.Counters.{IsCounting}
-use Rattle.kn_settle.proofs.Emptied.{used-here}
-use Rattle.kn_settle.proofs.Started.{IsDone, counting-begun, settled-all, settled-begun, used-most}
-use Rattle.kn_settle.proofs.Bounded.{used-reached}
-use Rattle.kn_settle.proofs.Trailed.{trailed-start}
+use Rattle.kn_settle.proofs.BucketSettling.{used-here}
+use Rattle.kn_settle.proofs.SettlingStart.{IsDone, counting-begun, settled-all, settled-begun, used-most}
+use Rattle.kn_settle.proofs.StepBounds.{used-reached}
+use Rattle.kn_settle.proofs.Trails.{trailed-start}
 use Rattle.kn_settle.proofs.settling.settle_in.Goals as goal
 
 pub returns-in_err-reach_requesters-clause-ticks : goal.returns-in_err-reach_requesters-clause-ticks

@@ -1,9 +1,10 @@
 use Rattle.std.proofs.Common.{◌≡◌, ◌<◌, ℕ, List, length, slice_get, sym, ap, ◌∙◌, arith}
 use Rattle.kn_system.specs.Equations.{SystemEquations, row_at}
 use Rattle.kn_settle.specs.Counters.{IsReady, bucket_at}
-use Rattle.kn_settle.proofs.Emptied.{ArePassed, all-passed, bucket-read, counting-down, counting-now, passed-further}
-use Rattle.kn_settle.proofs.Emptied.{passed-on, still-within}
-use Rattle.kn_settle.proofs.Reached.{none-left, waiting-grants}
+use Rattle.kn_settle.proofs.BucketSettling.{ArePassed, all-passed, bucket-read, counting-down, counting-now}
+use Rattle.kn_settle.proofs.BucketSettling.{passed-further}
+use Rattle.kn_settle.proofs.BucketSettling.{passed-on, still-within}
+use Rattle.kn_settle.proofs.MarkedRows.{none-left, waiting-grants}
 use Rattle.kn_settle.proofs.settling.settle_level.Goals as goal
 
 pub next_row-requires-clause-named : goal.next_row-requires-clause-named

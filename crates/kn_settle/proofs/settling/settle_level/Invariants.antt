@@ -2,7 +2,7 @@ use Rattle.std.proofs.Common.{◌≡◌, ◌≤◌, length}
 use Rattle.kn_system.specs.Equations.{node_total}
 use Rattle.kn_system.specs.Settled.{IsSettled, unsettled}
 use Rattle.kn_settle.specs.Counters.{bucket_at}
-use Rattle.kn_settle.proofs.Emptied.{ArePassed, Continues}
+use Rattle.kn_settle.proofs.BucketSettling.{ArePassed, Continues}
 use Rattle.kn_settle.specs.Blank.{AreTrailed}
 use Rattle.kn_settle.proofs.settling.settle_level.Given as goal
 

@@ -7,9 +7,10 @@ use Rattle.kn_system.specs.Proofs.{levels_after, HasOneRowEach, IsProof}
 use Rattle.kn_settle.specs.Reach.{most_reached}
 use Rattle.std.proofs.lemmas.List.{length-replicate}
 use Rattle.kn_settle.specs.Blank.{Sizes}
-use Rattle.kn_settle.proofs.Trailed.{blank-same, sizes-same}
-use Rattle.kn_settle.proofs.Queried.{query_system-blank, query_system-flags, query_system-levels, query_system-nodes}
-use Rattle.kn_settle.proofs.Queried.{query_system-others, query_system-size}
+use Rattle.kn_settle.proofs.Trails.{blank-same, sizes-same}
+use Rattle.kn_settle.proofs.QuerySystems.{query_system-blank, query_system-flags, query_system-levels}
+use Rattle.kn_settle.proofs.QuerySystems.{query_system-nodes}
+use Rattle.kn_settle.proofs.QuerySystems.{query_system-others, query_system-size}
 use Rattle.kn_settle.proofs.settling.settle_on_demand.Goals as goal
 
 pub settle_in-settled-requires-clause-flags : goal.settle_in-settled-requires-clause-flags

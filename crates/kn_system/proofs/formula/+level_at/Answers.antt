@@ -3,8 +3,9 @@ use Rattle.std.proofs.lemmas.List.{length-set, length-take}
 use Rattle.kn_system.specs.declared.rows.Piece.TheVariants.{Who}
 use Rattle.kn_system.specs.Form.{form_levels}
 use Rattle.kn_system.specs.Forms.{AreTallied}
-use Rattle.kn_system.proofs.Stacked.{AreTallied-push, take_next, drop_next, often-le, who_read, gate_read, next_within}
-use Rattle.kn_system.proofs.Stacked.{gate_done, levels_taken-le}
+use Rattle.kn_system.proofs.FormulasBehind.{AreTallied-push, take_next, drop_next, often-le, who_read, gate_read}
+use Rattle.kn_system.proofs.FormulasBehind.{next_within}
+use Rattle.kn_system.proofs.FormulasBehind.{gate_done, levels_taken-le}
 use Rattle.kn_system.proofs.formula.+level_at.Goals as goal
 
 pub bounds-values-principal : goal.bounds-values-principal

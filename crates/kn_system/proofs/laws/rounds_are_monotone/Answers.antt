@@ -1,4 +1,4 @@
-use Rattle.kn_system.proofs.Turned.{round-below}
+use Rattle.kn_system.proofs.Rounds.{round-below}
 use Rattle.kn_system.proofs.laws.rounds_are_monotone.Goals as goal
 
 pub returns : goal.returns

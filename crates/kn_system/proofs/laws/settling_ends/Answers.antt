@@ -1,4 +1,4 @@
-use Rattle.kn_system.proofs.Granted.{ends}
+use Rattle.kn_system.proofs.SettlingByLevels.{ends}
 use Rattle.kn_system.proofs.laws.settling_ends.Goals as goal
 
 pub returns : goal.returns

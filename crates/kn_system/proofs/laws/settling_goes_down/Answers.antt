@@ -1,4 +1,4 @@
-use Rattle.kn_system.proofs.Granted.{goes_down}
+use Rattle.kn_system.proofs.SettlingByLevels.{goes_down}
 use Rattle.kn_system.proofs.laws.settling_goes_down.Goals as goal
 
 pub returns : goal.returns

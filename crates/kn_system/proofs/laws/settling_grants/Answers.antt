@@ -1,4 +1,4 @@
-use Rattle.kn_system.proofs.Granted.{grants}
+use Rattle.kn_system.proofs.SettlingByLevels.{grants}
 use Rattle.kn_system.proofs.laws.settling_grants.Goals as goal
 
 pub returns : goal.returns

@@ -1,4 +1,4 @@
-use Rattle.kn_system.proofs.Granted.{starts}
+use Rattle.kn_system.proofs.SettlingByLevels.{starts}
 use Rattle.kn_system.proofs.laws.settling_starts.Goals as goal
 
 pub returns : goal.returns

@@ -2,7 +2,7 @@ use Rattle.std.proofs.Common.{ap, option_map}
 use Rattle.kn_reply.specs.Replies.{reply_of, reply_text}
 use Rattle.kn_daemon.specs.Daemon.{reply_of_call}
 use Rattle.kn_session.specs.Calls.{call_of}
-use Rattle.kn_transcript.proofs.Judged.{as_text}
+use Rattle.kn_transcript.proofs.DueReplies.{as_text}
 use Rattle.kn_transcript.proofs.CallingLaws.{state_with, private_few, call_done, call_untaken}
 use Rattle.kn_transcript.proofs.calling.judge_call.Goals as goal
 

@@ -12,9 +12,9 @@ returns-in-Call c = record {
 
 pub returns-in-SetDigits : goal.returns-in-SetDigits
 returns-in-SetDigits c = record {
-  judged = judged_as _ _ _ _ _ _ _ _ c.judge_digits.result (λ found. option_map (λ rest. rest.now) found)
+  judged = judged_as _ _ _ _ _ _ _ _ c.judge_set_hex.result (λ found. option_map (λ rest. rest.now) found)
       c.shape_of.ensures.shape
-      c.in-SetDigits.is (c.judge_digits.ensures.judged c.args.book.now);
+      c.in-SetDigits.is (c.judge_set_hex.ensures.judged c.args.book.now);
 }
 
 pub returns-in-Query : goal.returns-in-Query

@@ -46,9 +46,9 @@ pieces-preserved c =
     c.in-None.is c.in_ok-is_last.ensures in
     record {
       same = a.2 ∙ c.pieces.invariant.same;
-      within = c.push_piece.ensures.within;
+      within = c.push_chunk.ensures.within;
       fed = λ requests fed.
-          c.push_piece.ensures.fed requests
+          c.push_chunk.ensures.fed requests
           (subst (λ (h : Held). IsFed c.args.script.now c.pieces.from h requests) (sym a.1)
           (c.pieces.invariant.fed requests fed));
     }

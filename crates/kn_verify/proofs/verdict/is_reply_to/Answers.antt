@@ -1,6 +1,6 @@
 use Rattle.std.proofs.Common.{length, ap, ◌∙◌}
 use Rattle.std.specs.Arc.{arc_value}
-use Rattle.kn_verify.proofs.Verified.{same_query}
+use Rattle.kn_verify.proofs.NumberedReplies.{same_query}
 use Rattle.kn_verify.proofs.verdict.is_reply_to.Goals as goal
 
 pub returns : goal.returns

@@ -2,7 +2,7 @@ use Rattle.std.proofs.Common.{◌≡◌, ◌<◌, [], length, sym, ◌∙◌, ar
 use Rattle.std.proofs.lemmas.Bool.{eqb-true}
 use Rattle.std.proofs.lemmas.Grind.{common_steps}
 use Rattle.kn_proof.specs.declared.reply.ReadReply.{ReadReply}
-use Rattle.kn_verify.proofs.Verified.{name_decides}
+use Rattle.kn_verify.proofs.NumberedReplies.{name_decides}
 use Rattle.kn_verify.proofs.verdict.tells.Goals as goal
 use Rattle.kn_verify.proofs.verdict.tells.Goals.{then-head-version, else-head-version}
 

@@ -3,7 +3,7 @@ use Rattle.std.proofs.lemmas.Bool.{false≢true}
 use Rattle.std.specs.Arc.{arc_value}
 use Rattle.kn_session.specs.Views.{session_of_view}
 use Rattle.kn_daemon.specs.Daemon.{equations_of}
-use Rattle.kn_verify.proofs.Verified.{ok_by_name, err_by_name}
+use Rattle.kn_verify.proofs.NumberedReplies.{ok_by_name, err_by_name}
 use Rattle.kn_verify.proofs.verdict.verify.Goals as goal
 
 pub returns-clause-ok : goal.returns-clause-ok

@@ -2,7 +2,7 @@ use Rattle.std.proofs.Common.{ℕ, false, replicate, sym, subst}
 use Rattle.kn_system.specs.Equations.{SystemEquations, row_at}
 use Rattle.kn_watch.specs.Affected.{IsSubset}
 use Rattle.kn_watch.specs.Found.{AreFound}
-use Rattle.kn_watch.proofs.Listed.{found-none, none-subset}
+use Rattle.kn_watch.proofs.FlaggedLists.{found-none, none-subset}
 use Rattle.kn_watch.proofs.affected.affected_by.Goals as goal
 
 pub flag_changed-requires-clause-found : goal.flag_changed-requires-clause-found

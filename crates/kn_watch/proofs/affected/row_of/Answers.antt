@@ -1,7 +1,7 @@
 use Rattle.std.proofs.Common.{◌≡◌, ◌+◌, ◌-◌, ◌<◌, ℕ, length, sym, ◌∙◌, subst, arith}
-use Rattle.kn_system.specs.declared.links.Up.TheVariants.{Node, Row}
+use Rattle.kn_system.specs.declared.nodes.Up.TheVariants.{Node, Row}
 use Rattle.kn_system.specs.Equations.{SystemEquations, row_at}
-use Rattle.kn_settle.proofs.Climbed.{within-more, within-tick}
+use Rattle.kn_settle.proofs.GateClimbs.{within-more, within-tick}
 use Rattle.kn_watch.specs.Climbing.{place_of_node, row_of_node}
 use Rattle.kn_watch.proofs.Nodes.{IsNodeOf, LeadsOn, node-of, up-leads}
 use Rattle.kn_watch.proofs.affected.row_of.Goals as goal

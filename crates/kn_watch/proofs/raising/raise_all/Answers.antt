@@ -1,7 +1,7 @@
 use Rattle.std.proofs.Common.{◌≡◌, ◌<◌, Bool, true, false, List, length, ◌∙◌, subst, rules}
 use Rattle.kn_system.specs.Equations.{SystemEquations}
 use Rattle.kn_watch.specs.Raising.{HasRisen, room}
-use Rattle.kn_watch.proofs.Raised.{raised-least, raising-ends, raising-next, raising-starts}
+use Rattle.kn_watch.proofs.RaisedLevels.{raised-least, raising-ends, raising-next, raising-starts}
 use Rattle.kn_watch.proofs.raising.raise_all.Goals as goal
 
 pub loop-init : goal.loop-init

@@ -1,5 +1,5 @@
 use Rattle.kn_watch.specs.Raising.{room}
-use Rattle.kn_watch.proofs.Raised.{IsRaising}
+use Rattle.kn_watch.proofs.RaisedLevels.{IsRaising}
 use Rattle.kn_watch.proofs.raising.raise_all.Given as goal
 
 abbrev pub invariant-loop : goal.invariant-loop

@@ -1,10 +1,10 @@
 use Rattle.std.proofs.Common.{◌+◌, ◌<◌, ◌||◌, ℕ, Bool, List, length, take, cond, sym, ap, ◌∙◌, subst, arith}
 use Rattle.kn_system.specs.Equations.{SystemEquations, row_at}
-use Rattle.kn_settle.proofs.Climbed.{within-further, within-more}
+use Rattle.kn_settle.proofs.GateClimbs.{within-further, within-more}
 use Rattle.kn_watch.specs.Affected.{affected_nodes, is_affected}
 use Rattle.kn_watch.specs.Raising.{HasRisen}
-use Rattle.kn_watch.proofs.Raised.{raised-next, risen-next}
-use Rattle.kn_watch.proofs.Spread.{nodes-next}
+use Rattle.kn_watch.proofs.RaisedLevels.{raised-next, risen-next}
+use Rattle.kn_watch.proofs.AffectedSpread.{nodes-next}
 use Rattle.kn_watch.proofs.raising.raise_each.Goals.{then-raise, else-raise}
 use Rattle.kn_watch.proofs.raising.raise_each.Goals as goal
 

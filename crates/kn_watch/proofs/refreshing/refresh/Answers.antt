@@ -3,8 +3,8 @@ use Rattle.kn_system.specs.Equations.{SystemEquations}
 use Rattle.kn_watch.specs.declared.changed.Changed.{Changed}
 use Rattle.kn_watch.specs.Affected.{AreAffected}
 use Rattle.kn_watch.specs.Raising.{AreStarted, IsStart}
-use Rattle.kn_watch.proofs.Bounded.{found-ticks, refreshed-ticks}
-use Rattle.kn_watch.proofs.Started.{started}
+use Rattle.kn_watch.proofs.RefreshSteps.{found-ticks, refreshed-ticks}
+use Rattle.kn_watch.proofs.StartLevels.{started}
 use Rattle.kn_watch.proofs.refreshing.refresh.Goals as goal
 
 pub returns-in_err-affected-clause-ticks : goal.returns-in_err-affected-clause-ticks

@@ -1,6 +1,6 @@
 use Rattle.std.proofs.Common.{◌≤◌, length, arith, refl}
 use Rattle.std.specs.Prelude.{option_map}
-use Rattle.kn_words.proofs.Spelled.{spell_ask}
+use Rattle.kn_words.proofs.CommandWords.{spell_ask}
 use Rattle.kn_words.proofs.file_words.ask_files.Goals as goal
 
 pub returns-clause-some : goal.returns-clause-some

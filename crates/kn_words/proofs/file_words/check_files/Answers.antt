@@ -1,5 +1,5 @@
 use Rattle.std.proofs.Common.{◌≡◌, length, arith}
-use Rattle.kn_words.proofs.Spelled.{spell_check}
+use Rattle.kn_words.proofs.CommandWords.{spell_check}
 use Rattle.kn_words.proofs.file_words.check_files.Goals as goal
 
 pub returns-clause-some : goal.returns-clause-some

@@ -1,5 +1,5 @@
 use Rattle.std.proofs.Common.{◌≡◌, length, arith}
-use Rattle.kn_words.proofs.Spelled.{spell_follow}
+use Rattle.kn_words.proofs.CommandWords.{spell_follow}
 use Rattle.kn_words.proofs.file_words.log_file.Goals as goal
 
 pub returns-clause-some : goal.returns-clause-some

@@ -1,5 +1,5 @@
 use Rattle.std.proofs.Common.{codes}
-use Rattle.kn_words.proofs.Spelled.{first_word}
+use Rattle.kn_words.proofs.CommandWords.{first_word}
 use Rattle.kn_words.proofs.service_words.asks_to_serve.Goals as goal
 
 pub returns-then-not-is_empty-clause-yes : goal.returns-then-not-is_empty-clause-yes

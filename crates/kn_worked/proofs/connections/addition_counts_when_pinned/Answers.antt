@@ -1,4 +1,4 @@
-use Rattle.kn_worked.proofs.Adding.{bob_is_answered}
+use Rattle.kn_worked.proofs.AddingConnection.{bob_is_answered}
 use Rattle.kn_worked.proofs.connections.addition_counts_when_pinned.Goals as goal
 
 pub returns : goal.returns

@@ -1,4 +1,4 @@
-use Rattle.kn_worked.proofs.Replacing.{batches_are_seen}
+use Rattle.kn_worked.proofs.ReplacingConnection.{batches_are_seen}
 use Rattle.kn_worked.proofs.connections.batches_are_seen.Goals as goal
 
 pub returns : goal.returns

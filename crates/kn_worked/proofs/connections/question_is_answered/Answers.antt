@@ -1,5 +1,5 @@
 use Rattle.kn_worked.proofs.Asking.{alice_is_answered}
-use Rattle.kn_worked.proofs.Only.{alice_is_answered_so}
+use Rattle.kn_worked.proofs.NothingElse.{alice_is_answered_so}
 use Rattle.kn_worked.proofs.connections.question_is_answered.Goals as goal
 
 pub returns-clause-some : goal.returns-clause-some

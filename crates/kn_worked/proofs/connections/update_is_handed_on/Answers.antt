@@ -1,4 +1,4 @@
-use Rattle.kn_worked.proofs.Looks.{update_is_handed_on}
+use Rattle.kn_worked.proofs.LookConnections.{update_is_handed_on}
 use Rattle.kn_worked.proofs.connections.update_is_handed_on.Goals as goal
 
 pub returns : goal.returns

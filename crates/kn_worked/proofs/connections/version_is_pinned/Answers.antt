@@ -1,4 +1,4 @@
-use Rattle.kn_worked.proofs.Looks.{version_is_pinned}
+use Rattle.kn_worked.proofs.LookConnections.{version_is_pinned}
 use Rattle.kn_worked.proofs.connections.version_is_pinned.Goals as goal
 
 pub returns : goal.returns

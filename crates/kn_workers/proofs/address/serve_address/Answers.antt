@@ -1,7 +1,7 @@
 use Rattle.std.proofs.Common.{◌≡◌, ◌<◌, arith, ap, sym, ◌∙◌, false}
 use Rattle.kn_auth.specs.Verdicts.{verdict_of}
-use Rattle.kn_daemon.specs.Daemon.{Grounds}
-use Rattle.kn_serve.specs.Grounds.{grounds_by}
+use Rattle.kn_daemon.specs.Daemon.{DaemonConfig}
+use Rattle.kn_serve.specs.Configs.{config_by}
 use Rattle.kn_workers.specs.declared.worker.ServeEnd.{ServeEnd}
 use Rattle.kn_workers.specs.Workers.{AllServed}
 use Rattle.kn_workers.proofs.AddressLaws.{served_less, served_whole}
@@ -18,7 +18,7 @@ serve_all-ended-requires-clause-quotas g c κs within =
 
 pub returns-in-Ok-ended : goal.returns-in-Ok-ended
 returns-in-Ok-ended g c =
-    let grounds : Grounds = grounds_by verdict_of c.args.keys.now.auth c.args.keys.now.secret in
+    let grounds : DaemonConfig = config_by verdict_of c.args.keys.now.auth c.args.keys.now.secret in
     let all : AllServed g.N.Room.Door.seen g.N.Room.Conn.Sink.seen grounds c.args.root c.serve_all-ended.new.root
     c.in-Ok.rooms c.serve_all-ended.new.doors c.in-Ok-ended.end =
     rw c.as_slice-secret.ensures at c.in-Ok-ended.ensures.served in
@@ -30,7 +30,7 @@ returns-in-Ok-ended g c =
 
 pub returns-in-Ok-2 : goal.returns-in-Ok-2
 returns-in-Ok-2 g c =
-    let grounds : Grounds = grounds_by verdict_of c.args.keys.now.auth c.args.keys.now.secret in
+    let grounds : DaemonConfig = config_by verdict_of c.args.keys.now.auth c.args.keys.now.secret in
     let some : 0 < c.args.served.now.doors = c.requires.doors.0 in
     let ends : c.in-Ok-ended.end ≡ c.in-Ok-2.end = cc in
     let whole : c.in-Ok-2.end.failed ≡ false = ap (λ (e : ServeEnd). e.failed) (sym ends) ∙ c.if-end.false in

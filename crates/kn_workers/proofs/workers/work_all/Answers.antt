@@ -1,7 +1,7 @@
 use Rattle.std.proofs.Common.{rules, subst}
 use Rattle.std.specs.Prelude.{slice_index_or}
-use Rattle.kn_daemon.specs.Daemon.{Grounds}
-use Rattle.kn_serve.specs.Grounds.{grounds_by}
+use Rattle.kn_daemon.specs.Daemon.{DaemonConfig}
+use Rattle.kn_serve.specs.Configs.{config_by}
 use Rattle.kn_workers.specs.Posts.{WorksAtPost}
 use Rattle.kn_workers.proofs.Crossing.{crossing}
 use Rattle.kn_workers.proofs.ServingAll.{zip_of}
@@ -21,7 +21,7 @@ for_each_mut-requires-sync-F g c κs within =
 
 pub returns : goal.returns
 returns g c =
-    let grounds : Grounds = grounds_by g.A.Authenticator.verdict c.args.auth.now c.args.secret.now in
+    let grounds : DaemonConfig = config_by g.A.Authenticator.verdict c.args.auth.now c.args.secret.now in
     zip_of (WorksAtPost c.args.reg.now g.D.Door.seen g.D.Conn.Sink.seen grounds) c.args.posts.now
     c.for_each_mut.new.s (search rules)
     (λ i d lt.

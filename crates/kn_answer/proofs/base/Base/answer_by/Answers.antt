@@ -9,9 +9,10 @@ use Rattle.kn_system.specs.Proofs.{IsProof}
 use Rattle.kn_settle.specs.QuerySystem.{query_system}
 use Rattle.kn_answer.specs.Based.{BaseView, AreNumbersOf, IsBaseOf, capped_values, ceilings_of}
 use Rattle.kn_answer.specs.Removed.{live_parts}
-use Rattle.kn_answer.proofs.Answered.{IsAnswering, answering-below, answering-each, answering-least, answering-low}
-use Rattle.kn_answer.proofs.Answered.{answering-others, answering-proof, answering-rows}
-use Rattle.kn_answer.proofs.Basing.{length-base}
+use Rattle.kn_answer.proofs.AnswersOfBases.{IsAnswering, answering-below, answering-each, answering-least}
+use Rattle.kn_answer.proofs.AnswersOfBases.{answering-low}
+use Rattle.kn_answer.proofs.AnswersOfBases.{answering-others, answering-proof, answering-rows}
+use Rattle.kn_answer.proofs.BaseSystems.{length-base}
 use Rattle.kn_answer.proofs.Capped.{ceilings-capped}
 use Rattle.kn_answer.proofs.base.Base.answer_by.Goals as goal
 

@@ -7,9 +7,9 @@ use Rattle.kn_meaning.specs.Proofs as proof
 use Rattle.kn_system.specs.Equations.{IsRowOver, IsSystem}
 use Rattle.kn_answer.specs.Based.{BaseView, IsBaseOf}
 use Rattle.kn_answer.specs.Removed.{live_parts}
-use Rattle.kn_answer.proofs.Basing.{length-base}
-use Rattle.kn_answer.proofs.Entered.{length-with_names}
-use Rattle.kn_answer.proofs.Overlaid.{first-within, live-more, over-these, take-front, taken-back}
+use Rattle.kn_answer.proofs.BaseSystems.{length-base}
+use Rattle.kn_answer.proofs.NamesAdded.{length-with_names}
+use Rattle.kn_answer.proofs.LongerBases.{first-within, live-more, over-these, take-front, taken-back}
 use Rattle.kn_answer.proofs.base.Base.answer_with.Goals as goal
 
 pub of-all-requires : goal.of-all-requires

@@ -5,8 +5,8 @@ use Rattle.kn_meaning.specs.Equations.{Part}
 use Rattle.kn_system.specs.Equations.{node_total}
 use Rattle.kn_answer.specs.Based.{BaseView, GoesOn, IsBaseOf}
 use Rattle.kn_answer.specs.Extending.{AddsRow}
-use Rattle.kn_answer.proofs.Added.{added-base, added-nodes}
-use Rattle.kn_answer.proofs.Overlaid.{goes-on-row}
+use Rattle.kn_answer.proofs.RowsOfAssertions.{added-base, added-nodes}
+use Rattle.kn_answer.proofs.LongerBases.{goes-on-row}
 use Rattle.kn_answer.proofs.base.Base.extend.Goals as goal
 
 pub returns-clause-base : goal.returns-clause-base

@@ -4,8 +4,8 @@ use Rattle.std.proofs.lemmas.List.{append-nil, replicate_more, take_all, take_mo
 use Rattle.kn_meaning.specs.Equations.{Part}
 use Rattle.kn_answer.specs.Based.{IsBaseOf}
 use Rattle.kn_answer.specs.Sizes.{IsReadablePart, size_of, total_size}
-use Rattle.kn_answer.proofs.Counted.{total_size-drop, total_size-longer, total_size-split}
-use Rattle.kn_answer.proofs.Overlaid.{goes-on-after, goes-on-same}
+use Rattle.kn_answer.proofs.SizesAdded.{total_size-drop, total_size-longer, total_size-split}
+use Rattle.kn_answer.proofs.LongerBases.{goes-on-after, goes-on-same}
 use Rattle.kn_answer.proofs.base.Base.extend_all.Goals as goal
 
 pub loop-part-init : goal.loop-part-init

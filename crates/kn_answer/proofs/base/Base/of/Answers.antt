@@ -4,7 +4,7 @@ use Rattle.kn_answer.specs.Numbering.{with_names}
 use Rattle.kn_answer.specs.Removed.{live_parts}
 use Rattle.kn_answer.specs.Sizes.{total_size}
 use Rattle.kn_answer.proofs.Capped.{live-all}
-use Rattle.kn_answer.proofs.Entered.{length-with_names}
+use Rattle.kn_answer.proofs.NamesAdded.{length-with_names}
 use Rattle.kn_answer.proofs.Texts.{texts_readable, texts_small}
 use Rattle.kn_answer.proofs.base.Base.of.Goals as goal
 

@@ -8,12 +8,12 @@ use Rattle.kn_meaning.specs.Occurring.{formula_names}
 use Rattle.kn_answer.specs.Numbering.{IsNumber}
 use Rattle.kn_answer.specs.Extending.{Extends}
 use Rattle.kn_answer.specs.Spelling.{AddsSpelled}
-use Rattle.kn_answer.proofs.Entered.{length-with_name}
-use Rattle.kn_answer.proofs.Folded.{IsSoundGate, IsSoundGate-All, IsSoundGate-Any, IsSoundGate-Threshold}
-use Rattle.kn_answer.proofs.Folded.{formula_nodes-Who, formula_names-Who, total-part, total-more, flat_map-more}
-use Rattle.kn_answer.proofs.Grown.{Extends-none, Extends-then, Extends-within, known_on_ok, map_on_ok}
-use Rattle.kn_answer.proofs.Spelled.{AddsSpelled-Who, AddsSpelled-gate, AddsSpelled-none, AddsSpelled-then}
-use Rattle.kn_answer.proofs.Spelled.{AddsGate-parts}
+use Rattle.kn_answer.proofs.NamesAdded.{length-with_name}
+use Rattle.kn_answer.proofs.FormulaFolds.{IsSoundGate, IsSoundGate-All, IsSoundGate-Any, IsSoundGate-Threshold}
+use Rattle.kn_answer.proofs.FormulaFolds.{formula_nodes-Who, formula_names-Who, total-part, total-more, flat_map-more}
+use Rattle.kn_answer.proofs.NewNames.{Extends-none, Extends-then, Extends-within, known_on_ok, map_on_ok}
+use Rattle.kn_answer.proofs.FormulaPieces.{AddsSpelled-Who, AddsSpelled-gate, AddsSpelled-none, AddsSpelled-then}
+use Rattle.kn_answer.proofs.FormulaPieces.{AddsGate-parts}
 use Rattle.kn_answer.proofs.numbered.Numbered.+formula.Goals as goal
 
 pub add_formula-number-requires-clause-few : goal.add_formula-number-requires-clause-few

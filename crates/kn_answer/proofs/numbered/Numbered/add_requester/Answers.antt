@@ -1,4 +1,4 @@
-use Rattle.kn_answer.proofs.Grown.{AddsRequester-longer}
+use Rattle.kn_answer.proofs.NewNames.{AddsRequester-longer}
 use Rattle.kn_answer.proofs.numbered.Numbered.add_requester.Goals as goal
 
 pub returns-in_ok-add-in-None : goal.returns-in_ok-add-in-None

@@ -1,6 +1,6 @@
 use Rattle.std.proofs.Common.{◌≡◌, ℕ, ◌+◌, ◌≤◌, ◌<◌, length, get_or, ap, ◌∙◌, subst, arith}
 use Rattle.kn_answer.specs.Extending.{AddsRequester}
-use Rattle.kn_answer.proofs.Grown.{AddsNames-requester, is_among}
+use Rattle.kn_answer.proofs.NewNames.{AddsNames-requester, is_among}
 use Rattle.kn_answer.proofs.numbered.Numbered.add_requesters.Goals as goal
 
 pub loop-requester-preserved : goal.loop-requester-preserved

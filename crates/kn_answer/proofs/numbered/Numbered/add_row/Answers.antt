@@ -6,8 +6,8 @@ use Rattle.kn_system.specs.Equations.{SystemEquations}
 use Rattle.kn_system.specs.Rows.{SystemRow}
 use Rattle.kn_answer.specs.Numbering.{IsNumber, IsSystemOf}
 use Rattle.kn_answer.specs.Extending.{AddsNames, Extends}
-use Rattle.kn_answer.proofs.Entered.{length-with_name}
-use Rattle.kn_answer.proofs.Grown.{AddsNames-then}
+use Rattle.kn_answer.proofs.NamesAdded.{length-with_name}
+use Rattle.kn_answer.proofs.NewNames.{AddsNames-then}
 use Rattle.kn_answer.proofs.numbered.Numbered.add_row.Goals as goal
 
 pub number-requires-clause-few : goal.number-requires-clause-few

@@ -2,7 +2,7 @@ use Rattle.std.proofs.Common.{◌≡◌, ap, subst}
 use Rattle.kn_trees.specs.declared.assertion.Assertion.{Assertion}
 use Rattle.kn_meaning.specs.Equations.{Part, statement_of}
 use Rattle.kn_answer.specs.Extending.{AddsRow}
-use Rattle.kn_answer.proofs.Added.{added-nodes, added-statement}
+use Rattle.kn_answer.proofs.RowsOfAssertions.{added-nodes, added-statement}
 use Rattle.kn_answer.proofs.numbered.Numbered.add_statement.Goals as goal
 
 pub returns-clause-nodes : goal.returns-clause-nodes

@@ -7,9 +7,9 @@ use Rattle.kn_answer.specs.Numbering.{IsSystemOf}
 use Rattle.kn_meaning.specs.Equations.{Part, Statement, equations_over, statement_of}
 use Rattle.kn_meaning.specs.Occurring.{statement_names}
 use Rattle.kn_answer.specs.Extending.{AddsNames}
-use Rattle.kn_answer.proofs.Grown.{AddsNames-then}
+use Rattle.kn_answer.proofs.NewNames.{AddsNames-then}
 use Rattle.kn_answer.specs.Sizes.{IsReadablePart, total_size, size_of}
-use Rattle.kn_answer.proofs.Counted.{total_size-drop, statements-more}
+use Rattle.kn_answer.proofs.SizesAdded.{total_size-drop, statements-more}
 use Rattle.kn_answer.proofs.numbered.Numbered.add_statements.Goals as goal
 
 pub add_statement-requires-clause-readable : goal.add_statement-requires-clause-readable

@@ -2,14 +2,15 @@ use Rattle.std.proofs.Common.{◌≡◌, ℕ, List, [], ◌∷◌, ◌++◌, len
 use Rattle.kn_trees.specs.Formulas.{IsReadable, field_nodes}
 use Rattle.kn_meaning.specs.Occurring.{licensees_names}
 use Rattle.kn_answer.specs.Extending.{Extends}
-use Rattle.kn_answer.proofs.Grown.{Extends-none}
+use Rattle.kn_answer.proofs.NewNames.{Extends-none}
 use Rattle.kn_system.specs.declared.rows.Piece.{Piece}
 use Rattle.kn_system.specs.declared.rows.Piece.TheVariants.{Gate}
 use Rattle.kn_system.specs.Forms.{IsFormula}
 use Rattle.kn_answer.specs.Numbering.{SpellLicensees, ArePiecesOf, licensees_pieces}
 use Rattle.kn_answer.specs.Spelling.{AreSpelled}
-use Rattle.kn_answer.proofs.Spelled.{ArePiecesOf-alone, SpellLicensees-none, SpellLicensees-alone, IsFormula-alone}
-use Rattle.kn_answer.proofs.Spelled.{IsFormula-none, AddsSpelled-first}
+use Rattle.kn_answer.proofs.FormulaPieces.{ArePiecesOf-alone, SpellLicensees-none, SpellLicensees-alone}
+use Rattle.kn_answer.proofs.FormulaPieces.{IsFormula-alone}
+use Rattle.kn_answer.proofs.FormulaPieces.{IsFormula-none, AddsSpelled-first}
 use Rattle.kn_answer.proofs.numbered.Numbered.licensees.Goals as goal
 use Rattle.kn_answer.proofs.numbered.Numbered.licensees.Goals.{in-Some+in_ok-add_formula-in-Some}
 use Rattle.kn_answer.proofs.numbered.Numbered.licensees.Goals.{in-None+in_ok-add_piece-in-None}

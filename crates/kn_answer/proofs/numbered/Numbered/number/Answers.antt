@@ -1,7 +1,7 @@
 use Rattle.std.proofs.Common.{◌^◌, ◌≤◌, [], ◌∷◌, ◌++◌, length, sym, ◌∙◌, subst, arith}
 use Rattle.std.proofs.lemmas.List.{length-append}
-use Rattle.kn_answer.proofs.Entered.{with_name-absent, with_name-known}
-use Rattle.kn_answer.proofs.Grown.{Extends-longer, both_on_ok, map_on_ok}
+use Rattle.kn_answer.proofs.NamesAdded.{with_name-absent, with_name-known}
+use Rattle.kn_answer.proofs.NewNames.{Extends-longer, both_on_ok, map_on_ok}
 use Rattle.kn_answer.proofs.numbered.Numbered.number.Goals as goal
 
 pub add-requires-clause-few : goal.add-requires-clause-few

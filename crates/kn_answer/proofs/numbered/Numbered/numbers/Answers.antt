@@ -4,9 +4,9 @@ use Rattle.std.proofs.lemmas.List.{take_more}
 use Rattle.kn_answer.specs.Based.{AreNumbersOf}
 use Rattle.kn_answer.specs.Numbering.{with_name, with_names}
 use Rattle.kn_answer.specs.Extending.{Extends}
-use Rattle.kn_answer.proofs.Added.{extended-base}
-use Rattle.kn_answer.proofs.Entered.{room_for_next, with_names-again, with_names-more}
-use Rattle.kn_answer.proofs.Basing.{AreNumbersOf-kept, AreNumbersOf-longer}
+use Rattle.kn_answer.proofs.RowsOfAssertions.{extended-base}
+use Rattle.kn_answer.proofs.NamesAdded.{room_for_next, with_names-again, with_names-more}
+use Rattle.kn_answer.proofs.BaseSystems.{AreNumbersOf-kept, AreNumbersOf-longer}
 use Rattle.kn_answer.proofs.numbered.Numbered.numbers.Goals as goal
 
 pub number-requires-clause-few : goal.number-requires-clause-few

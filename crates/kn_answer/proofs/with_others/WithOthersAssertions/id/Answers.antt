@@ -3,7 +3,7 @@ use Rattle.std.proofs.lemmas.List.{length-map, map-append}
 use Rattle.kn_proof.specs.declared.named.Id.{Id}
 use Rattle.kn_meaning.specs.Equations.{Part}
 use Rattle.kn_answer.specs.Numbering.{IsNumber}
-use Rattle.kn_answer.proofs.Overlaid.{number-behind, number-front}
+use Rattle.kn_answer.proofs.LongerBases.{number-behind, number-front}
 use Rattle.kn_answer.proofs.with_others.WithOthersAssertions.id.Goals as goal
 
 pub returns-then-row-self : goal.returns-then-row-self

@@ -1,5 +1,5 @@
 use Rattle.std.proofs.Common.{arith}
-use Rattle.kn_auth.proofs.Listed.{digest_added}
+use Rattle.kn_auth.proofs.DigestSets.{digest_added}
 use Rattle.kn_auth.proofs.digest_list.DigestList.add.Goals as goal
 
 pub invariant_of-self-in-Ok : goal.invariant_of-self-in-Ok

@@ -1,4 +1,4 @@
-use Rattle.kn_auth.proofs.Whole.{taken_or_refused}
+use Rattle.kn_auth.proofs.KeyFiles.{taken_or_refused}
 use Rattle.kn_auth.proofs.key_file.KeyFile.take_line.Goals as goal
 
 pub returns-in-Some-clause-taken : goal.returns-in-Some-clause-taken

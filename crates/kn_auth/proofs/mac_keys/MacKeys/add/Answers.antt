@@ -2,7 +2,7 @@ use Rattle.std.proofs.Common.{◌≡◌, ◌∷◌, ◌++◌, [], List, false, m
 use Rattle.kn_auth.specs.Entries.{mac_key_of}
 use Rattle.kn_auth.specs.Verdicts.{has_key}
 use Rattle.kn_auth.specs.declared.entry.MacKey.{MacKey}
-use Rattle.kn_auth.proofs.Keyed.{inserted_last}
+use Rattle.kn_auth.proofs.KeyMaps.{inserted_last}
 use Rattle.kn_auth.proofs.mac_keys.MacKeys.add.Goals as goal
 
 pub returns-in-Ok-insert-clause-ok : goal.returns-in-Ok-insert-clause-ok

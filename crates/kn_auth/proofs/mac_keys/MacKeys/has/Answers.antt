@@ -1,7 +1,7 @@
 use Rattle.std.proofs.Common.{ap, ◌∙◌}
 use Rattle.std.specs.Prelude.{is_some}
 use Rattle.kn_auth.specs.Verdicts.{has_key}
-use Rattle.kn_auth.proofs.Keyed.{key_found, is_some-copied}
+use Rattle.kn_auth.proofs.KeyMaps.{key_found, is_some-copied}
 use Rattle.kn_auth.proofs.mac_keys.MacKeys.has.Goals as goal
 
 pub returns : goal.returns

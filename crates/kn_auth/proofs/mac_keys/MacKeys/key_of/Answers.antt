@@ -1,6 +1,6 @@
 use Rattle.std.proofs.Common.{Some, ap, ◌∙◌}
 use Rattle.kn_auth.specs.Verdicts.{key_of}
-use Rattle.kn_auth.proofs.Keyed.{key_found}
+use Rattle.kn_auth.proofs.KeyMaps.{key_found}
 use Rattle.kn_auth.proofs.mac_keys.MacKeys.key_of.Goals as goal
 
 pub returns-in-Some : goal.returns-in-Some

@@ -1,7 +1,7 @@
 use Rattle.std.proofs.Common.{◌≡◌, ◌++◌, [], ◌∷◌, map, sym, ap, ◌∙◌, append_assoc, append-nil}
 use Rattle.kn_env.specs.Attributes.{Attribute, with_attribute}
 use Rattle.kn_env.specs.Entries.{attribute_of}
-use Rattle.kn_env.proofs.Keyed.{IsNext, with_new_attribute, next_copied}
+use Rattle.kn_env.proofs.AttributeMaps.{IsNext, with_new_attribute, next_copied}
 use Rattle.kn_env.proofs.attributes.Attributes.copy.Goals as goal
 use Rattle.kn_env.proofs.attributes.Attributes.copy.Goals.{In-Some}
 

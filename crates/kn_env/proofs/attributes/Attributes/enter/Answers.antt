@@ -1,7 +1,7 @@
 use Rattle.std.proofs.Common.{◌≡◌, ◌<◌, false, length, map, ap, ◌∙◌}
 use Rattle.kn_env.specs.Attributes.{has_attribute, with_attribute}
 use Rattle.kn_env.specs.Entries.{attribute_of}
-use Rattle.kn_env.proofs.Keyed.{with_inserted, few_inserted}
+use Rattle.kn_env.proofs.AttributeMaps.{with_inserted, few_inserted}
 use Rattle.kn_env.proofs.attributes.Attributes.enter.Goals as goal
 
 pub returns-in-Ok-insert-clause-ok : goal.returns-in-Ok-insert-clause-ok

@@ -1,7 +1,7 @@
 use Rattle.std.proofs.Common.{Some, ap, ◌∙◌}
 use Rattle.std.specs.Option.{option_map}
 use Rattle.kn_env.specs.Attributes.{attribute_value}
-use Rattle.kn_env.proofs.Keyed.{value_found}
+use Rattle.kn_env.proofs.AttributeMaps.{value_found}
 use Rattle.kn_env.proofs.attributes.Attributes.get.Goals as goal
 
 pub returns-in-Some : goal.returns-in-Some

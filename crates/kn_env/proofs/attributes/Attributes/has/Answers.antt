@@ -1,7 +1,7 @@
 use Rattle.std.proofs.Common.{ap, ◌∙◌}
 use Rattle.std.specs.Prelude.{is_some}
 use Rattle.kn_env.specs.Attributes.{has_attribute}
-use Rattle.kn_env.proofs.Keyed.{has_found, is_some-copied}
+use Rattle.kn_env.proofs.AttributeMaps.{has_found, is_some-copied}
 use Rattle.kn_env.proofs.attributes.Attributes.has.Goals as goal
 
 pub returns : goal.returns

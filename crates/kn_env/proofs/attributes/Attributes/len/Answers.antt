@@ -2,7 +2,7 @@ use Rattle.std.proofs.Common.{subst}
 use Rattle.std.specs.List.{IsDistinct}
 use Rattle.std.specs.Str.{bytes_eq}
 use Rattle.kn_env.specs.Attributes.{attribute_names}
-use Rattle.kn_env.proofs.Keyed.{names_different}
+use Rattle.kn_env.proofs.AttributeMaps.{names_different}
 use Rattle.kn_env.proofs.attributes.Attributes.len.Goals as goal
 
 pub returns-clause-different : goal.returns-clause-different

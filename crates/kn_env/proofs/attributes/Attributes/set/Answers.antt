@@ -1,5 +1,5 @@
 use Rattle.std.proofs.Common.{sym, ◌∙◌}
-use Rattle.kn_env.proofs.Keyed.{room_for_new}
+use Rattle.kn_env.proofs.AttributeMaps.{room_for_new}
 use Rattle.kn_env.proofs.attributes.Attributes.set.Goals as goal
 
 pub enter-requires : goal.enter-requires

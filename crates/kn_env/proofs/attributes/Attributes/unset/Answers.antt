@@ -3,7 +3,7 @@ use Rattle.std.specs.Prelude.{is_some}
 use Rattle.kn_env.specs.Entries.{attribute_of}
 use Rattle.kn_env.specs.Attributes.{has_attribute, without_attribute}
 use Rattle.std.specs.Map.{lookup, remove_entry}
-use Rattle.kn_env.proofs.Keyed.{is_key, has_found, rest_without}
+use Rattle.kn_env.proofs.AttributeMaps.{is_key, has_found, rest_without}
 use Rattle.kn_env.proofs.attributes.Attributes.unset.Goals as goal
 use Rattle.kn_env.proofs.attributes.Attributes.unset.Goals.{in-Some, in-None}
 

@@ -1,7 +1,7 @@
 use Rattle.std.proofs.Common.{ℕ, List, ◌≡◌, ◌∙◌, ◌<◌, Some, sym, ap, get_or, length, slice_get, slice_index}
 use Rattle.std.proofs.Common.{slice_range, ◌∷◌, arith}
 use Rattle.std.proofs.lemmas.List.{get_or_read}
-use Rattle.kn_names.proofs.Placed.{ends-within, length-names, name_at}
+use Rattle.kn_names.proofs.NameBlocks.{ends-within, length-names, name_at}
 use Rattle.kn_names.proofs.arena.Arena.get.Goals as goal
 
 pub start-start-requires : goal.start-start-requires

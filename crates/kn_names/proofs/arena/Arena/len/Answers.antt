@@ -1,5 +1,5 @@
 use Rattle.std.proofs.Common.{ap, length, arith}
-use Rattle.kn_names.proofs.Placed.{length-names}
+use Rattle.kn_names.proofs.NameBlocks.{length-names}
 use Rattle.kn_names.proofs.arena.Arena.len.Goals as goal
 
 pub returns : goal.returns

@@ -2,7 +2,7 @@ use Rattle.std.proofs.Common.{ℕ, ◌≡◌, ◌∙◌, ◌≤◌, ◌-◌, ◌
 use Rattle.std.proofs.Common.{arith}
 use Rattle.std.proofs.lemmas.List.{length-take-le, take-append-drop}
 use Rattle.kn_names.specs.Arenas.{AreEnds, names_from}
-use Rattle.kn_names.proofs.Placed.{ends-taken, length-names, names-longer, names-taken, start-within}
+use Rattle.kn_names.proofs.NameBlocks.{ends-taken, length-names, names-longer, names-taken, start-within}
 use Rattle.kn_names.proofs.arena.Arena.pop.Goals as goal
 
 pub invariant_of-self : goal.invariant_of-self

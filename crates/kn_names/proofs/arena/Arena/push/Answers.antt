@@ -3,7 +3,7 @@ use Rattle.std.proofs.Common.{slice_range, arith}
 use Rattle.std.proofs.lemmas.List.{take_all}
 use Rattle.std.proofs.Math.Seq.{drop-append_seam}
 use Rattle.kn_names.specs.Arenas.{AreEnds, names_from}
-use Rattle.kn_names.proofs.Placed.{ends-pushed, names-longer, names-push}
+use Rattle.kn_names.proofs.NameBlocks.{ends-pushed, names-longer, names-push}
 use Rattle.kn_names.proofs.arena.Arena.push.Goals as goal
 
 pub invariant_of-self-2 : goal.invariant_of-self-2

@@ -2,7 +2,7 @@ use Rattle.std.proofs.Common.{ℕ, ◌≡◌, ◌≢◌, ◌+◌, ◌-◌, ◌<�
 use Rattle.std.proofs.lemmas.Bool.{false≢true}
 use Rattle.std.proofs.lemmas.List.{get_or_read}
 use Rattle.kn_names.specs.Chains.{IsSought}
-use Rattle.kn_names.proofs.Chained.{pointwise-same, sought_next}
+use Rattle.kn_names.proofs.Chains.{pointwise-same, sought_next}
 use Rattle.kn_names.proofs.names.Names.find.Goals as goal
 
 pub loop-at-preserved : goal.loop-at-preserved

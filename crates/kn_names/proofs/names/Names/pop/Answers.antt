@@ -1,7 +1,7 @@
 use Rattle.std.proofs.Common.{ℕ, ◌≡◌, ◌+◌, ◌-◌, ◌<◌, ◌∙◌, List, get_or, length, slice_set, take, sym, ap, subst, arith}
 use Rattle.std.proofs.lemmas.List.{get_or_read}
 use Rattle.kn_names.specs.Chains.{IsTable, home_of}
-use Rattle.kn_names.proofs.Chained.{table_popped}
+use Rattle.kn_names.proofs.Chains.{table_popped}
 use Rattle.kn_names.proofs.names.Names.pop.Goals as goal
 
 pub invariant_of-self : goal.invariant_of-self

@@ -2,7 +2,7 @@ use Rattle.std.proofs.Common.{ℕ, ◌≡◌, ◌+◌, ◌<◌, ◌∙◌, ◌�
 use Rattle.std.proofs.Common.{arith}
 use Rattle.std.proofs.lemmas.List.{get_or_read}
 use Rattle.kn_names.specs.Chains.{IsTable, home_of}
-use Rattle.kn_names.proofs.Chained.{table_pushed}
+use Rattle.kn_names.proofs.Chains.{table_pushed}
 use Rattle.kn_names.proofs.names.Names.push.Goals as goal
 
 pub invariant_of-self-2 : goal.invariant_of-self-2

@@ -1,6 +1,6 @@
 use Rattle.std.proofs.Common.{◌≤◌, length, arith}
 use Rattle.kn_query.specs.SharedBases.{IsOfHistory}
-use Rattle.kn_query.proofs.Kept.{kept-has}
+use Rattle.kn_query.proofs.KeptBaseLaws.{kept-has}
 use Rattle.kn_query.proofs.kept_bases.KeptBases.take_or_build.Goals as goal
 
 pub follow-requires : goal.follow-requires

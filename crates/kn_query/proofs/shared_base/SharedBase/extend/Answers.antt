@@ -11,7 +11,7 @@ use Rattle.kn_answer.specs.Based.{IsBaseOf}
 use Rattle.kn_answer.specs.Sizes.{IsReadablePart, total_size}
 use Rattle.kn_query.specs.Following.{AreUpTo, live_credentials}
 use Rattle.kn_query.specs.SharedParts.{AreRead}
-use Rattle.kn_query.proofs.Later.{additions-grow, all-both, newer-above, newer-up_to, up_to-more}
+use Rattle.kn_query.proofs.LaterVersions.{additions-grow, all-both, newer-above, newer-up_to, up_to-more}
 use Rattle.kn_query.proofs.Rows.{ascend-both, ascend-last, later-bytes, later-parts, live-both}
 use Rattle.kn_query.proofs.SharedParts.{parts-count, parts-readable, parts-size}
 use Rattle.kn_query.proofs.shared_base.SharedBase.extend.Goals as goal

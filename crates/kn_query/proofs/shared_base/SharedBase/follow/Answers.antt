@@ -6,7 +6,7 @@ use Rattle.kn_daemon.specs.Daemon.{parts_of}
 use Rattle.kn_system.specs.Equations.{SystemEquations, node_total}
 use Rattle.kn_query.specs.declared.shared_base.TheConstants.{MOST_NODES, MOST_PRINCIPALS}
 use Rattle.kn_query.specs.Following.{live_credentials, without_removed}
-use Rattle.kn_query.proofs.Later.{above-lower, credentials-since, newer-above}
+use Rattle.kn_query.proofs.LaterVersions.{above-lower, credentials-since, newer-above}
 use Rattle.kn_query.proofs.Rows.{live-up_to, same-base}
 use Rattle.kn_query.proofs.shared_base.SharedBase.follow.Goals as goal
 

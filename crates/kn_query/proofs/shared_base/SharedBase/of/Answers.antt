@@ -10,7 +10,7 @@ use Rattle.kn_answer.specs.Based.{IsBaseOf}
 use Rattle.kn_answer.specs.Sizes.{HaveTexts, total_size}
 use Rattle.kn_query.specs.Following.{AreUpTo, live_credentials}
 use Rattle.kn_query.specs.SharedParts.{shared_parts}
-use Rattle.kn_query.proofs.Later.{ids-up_to}
+use Rattle.kn_query.proofs.LaterVersions.{ids-up_to}
 use Rattle.kn_query.proofs.Rows.{live-everything}
 use Rattle.kn_query.proofs.SharedParts.{parts-count, parts-size, shared-texts}
 use Rattle.kn_query.proofs.shared_base.SharedBase.of.Goals as goal

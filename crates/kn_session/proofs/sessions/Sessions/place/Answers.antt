@@ -1,7 +1,7 @@
 use Rattle.std.proofs.Common.{◌≡◌, ◌==◌, List, Some, None, find, position, sym, ap, ◌∙◌, subst}
 use Rattle.kn_session.specs.Sessions.{Session, OpenSessions, fault_in}
-use Rattle.kn_session.specs.Placed.{IsOneAt}
-use Rattle.kn_session.proofs.OneAt.{one_at, one_number, none_passes, none_found}
+use Rattle.kn_session.specs.OnePlace.{IsOneAt}
+use Rattle.kn_session.proofs.OnePlace.{one_at, one_number, none_passes, none_found}
 use Rattle.kn_session.proofs.sessions.Sessions.place.Goals as goal
 
 pub returns-in-Some-clause-place : goal.returns-in-Some-clause-place

@@ -1,11 +1,11 @@
 use Rattle.std.proofs.Common.{◌≡◌, ◌<◌, ℕ, List, true, false, length, refl, sym, ap, ◌∙◌, subst, arith, rules}
-use Rattle.kn_system.specs.declared.links.Up.{Up}
-use Rattle.kn_system.specs.declared.links.Up.TheVariants.{Node, Row}
+use Rattle.kn_system.specs.declared.nodes.Up.{Up}
+use Rattle.kn_system.specs.declared.nodes.Up.TheVariants.{Node, Row}
 use Rattle.kn_system.specs.Equations.{node_total}
 use Rattle.kn_settle.specs.Counters.{AreLonger, AreWaiting, FitsBelow, IsCounted}
-use Rattle.kn_settle.proofs.Climbed.{GoesOn, IsCountStep, up_rank, rank_below, starts, gate_stops, gate_goes_on}
-use Rattle.kn_settle.proofs.Formed.{fits_below, up-fits}
-use Rattle.kn_settle.proofs.Put.{ends_at_put, breaks_at_row, breaks_at_gate, longer-put}
+use Rattle.kn_settle.proofs.GateClimbs.{GoesOn, IsCountStep, up_rank, rank_below, starts, gate_stops, gate_goes_on}
+use Rattle.kn_settle.proofs.NodeParents.{fits_below, up-fits}
+use Rattle.kn_settle.proofs.ClimbsOverBases.{ends_at_put, breaks_at_row, breaks_at_gate, longer-put}
 use Rattle.kn_settle.proofs.counters.Counters.climb.Goals as goal
 
 pub loop-up-init : goal.loop-up-init

@@ -1,7 +1,7 @@
 use Rattle.std.proofs.Common.{◌≡◌, length}
 use Rattle.kn_system.specs.Equations.{node_total}
 use Rattle.kn_settle.specs.Counters.{FitsBelow}
-use Rattle.kn_settle.proofs.Climbed.{GoesOn, up_rank}
+use Rattle.kn_settle.proofs.GateClimbs.{GoesOn, up_rank}
 use Rattle.kn_settle.specs.Blank.{AreTrailed}
 use Rattle.kn_settle.proofs.counters.Counters.climb.Given as goal
 

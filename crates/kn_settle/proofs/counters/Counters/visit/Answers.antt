@@ -2,9 +2,9 @@ use Rattle.std.proofs.Common.{◌<◌, length, sym, ◌∙◌, arith}
 use Rattle.kn_system.specs.Equations.{SystemEquations}
 use Rattle.kn_system.specs.Nodes.{pieces_of, uses_of}
 use Rattle.kn_system.proofs.KeptRows.{length-pieces_of}
-use Rattle.kn_settle.proofs.Counted.{longer-trans}
-use Rattle.kn_settle.proofs.Used.{IsUse, use_read, length-uses, none_of}
-use Rattle.kn_settle.proofs.Visiting.{goes_on_at, breaks_at, ends_at}
+use Rattle.kn_settle.proofs.OneMoreNode.{longer-trans}
+use Rattle.kn_settle.proofs.VisitedUses.{IsUse, use_read, length-uses, none_of}
+use Rattle.kn_settle.proofs.UsesAtLevels.{goes_on_at, breaks_at, ends_at}
 use Rattle.kn_settle.proofs.counters.Counters.visit.Goals as goal
 
 pub climb-requires-clause-in_range : goal.climb-requires-clause-in_range

@@ -2,7 +2,7 @@ use Rattle.std.proofs.Common.{◌≡◌, ◌-◌, length}
 use Rattle.kn_system.specs.Nodes.{pieces_of, uses_of}
 use Rattle.kn_settle.specs.Counters.{AreLonger}
 use Rattle.kn_settle.specs.Blank.{AreTrailed}
-use Rattle.kn_settle.proofs.Visiting.{VisitsAt}
+use Rattle.kn_settle.proofs.UsesAtLevels.{VisitsAt}
 use Rattle.kn_settle.proofs.counters.Counters.visit.Given as goal
 
 abbrev pub invariant-loop-node : goal.invariant-loop-node

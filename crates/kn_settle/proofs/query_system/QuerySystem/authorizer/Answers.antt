@@ -1,6 +1,6 @@
 use Rattle.std.proofs.Common.{length, sym, ap, ◌∙◌, arith}
 use Rattle.kn_system.specs.Equations.{SystemEquations, row_at}
-use Rattle.kn_settle.proofs.Queried.{authorizer-capped, length-capped, length-flags}
+use Rattle.kn_settle.proofs.QuerySystems.{authorizer-capped, length-capped, length-flags}
 use Rattle.kn_settle.proofs.query_system.QuerySystem.authorizer.Goals as goal
 
 pub authorizer-requires : goal.authorizer-requires

@@ -1,7 +1,7 @@
 use Rattle.std.proofs.Common.{◌≡◌, ◌+◌, ◌<◌, ℕ, List, length, slice_index, sym, ap, ◌∙◌, arith}
 use Rattle.std.proofs.lemmas.Result.{IfOk-weaker}
 use Rattle.kn_system.specs.Equations.{SystemEquations, row_at}
-use Rattle.kn_settle.proofs.Queried.{ceiling-capped, length-capped}
+use Rattle.kn_settle.proofs.QuerySystems.{ceiling-capped, length-capped}
 use Rattle.kn_settle.proofs.query_system.QuerySystem.ceiling.Goals as goal
 
 pub ceiling-requires : goal.ceiling-requires

@@ -1,9 +1,9 @@
 use Rattle.std.proofs.Common.{slice_index_or, sym, ap, ◌∙◌, arith}
-use Rattle.kn_system.specs.declared.links.Up.TheVariants.{Row}
+use Rattle.kn_system.specs.declared.nodes.Up.TheVariants.{Row}
 use Rattle.kn_system.specs.declared.rows.Piece.TheVariants.{Who}
 use Rattle.kn_system.specs.Equations.{SystemEquations, node_total}
 use Rattle.kn_system.specs.Nodes.{pieces_of, sort_of, ups_of_rows}
-use Rattle.kn_settle.proofs.Queried.{nodes-capped, pieces-capped, ups-capped}
+use Rattle.kn_settle.proofs.QuerySystems.{nodes-capped, pieces-capped, ups-capped}
 use Rattle.kn_settle.proofs.query_system.QuerySystem.node.Goals as goal
 
 pub node-requires : goal.node-requires

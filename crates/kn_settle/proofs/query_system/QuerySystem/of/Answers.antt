@@ -1,4 +1,4 @@
-use Rattle.kn_settle.proofs.Queried.{query_system-system}
+use Rattle.kn_settle.proofs.QuerySystems.{query_system-system}
 use Rattle.kn_settle.proofs.query_system.QuerySystem.of.Goals as goal
 
 pub invariant_of-result : goal.invariant_of-result

@@ -1,7 +1,7 @@
 use Rattle.std.proofs.Common.{length, slice_get, sym, ap, ◌∙◌, arith}
 use Rattle.kn_system.specs.Equations.{SystemEquations}
 use Rattle.kn_system.specs.Nodes.{pieces_of, uses_of}
-use Rattle.kn_settle.proofs.Queried.{length-flags, pieces-capped}
+use Rattle.kn_settle.proofs.QuerySystems.{length-flags, pieces-capped}
 use Rattle.kn_settle.proofs.query_system.QuerySystem.uses.Goals as goal
 
 pub uses-requires : goal.uses-requires

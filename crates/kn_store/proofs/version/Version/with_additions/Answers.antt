@@ -14,7 +14,7 @@ loop-ready-preserved c =
     let left = before.left in
     let some : 1 ≤ c.loop-ready.left = omega (arith, left, longer) in
     record {
-      added = one_more_added c.args.self c.args.caller c.args.readies.items c.loop-ready.next
+      added = one_more_added c.args.self c.args.caller c.args.ready_texts.items c.loop-ready.next
           (into_iter_items c.loop-ready.ready-iterator)
           (into_iter_items c.next.new.self) c.in-Some.ready before.added c.in-Some.ensures.steps.0
           c.in-Ok.longer c.in-Ok.field-0-1 c.in-Ok.ensures.id c.in-Ok.ensures.version c.in-Ok.ensures.follows;
@@ -39,7 +39,7 @@ returns-in-Some-refusal_of_size-clause-refused c =
     let refused : refusal_of_text (all_changes c.loop-ready.next) c.in-Some.ready
     ≡ Some c.in-Some-refusal_of_size.fault =
     sym (c.refusal_of_size.ensures c.in-Some.ready (ap length c.text.ensures.text)) ∙ c.in-Some-refusal_of_size.is in
-    inr (refused_here c.args.self c.args.caller c.args.readies.items c.loop-ready.next
+    inr (refused_here c.args.self c.args.caller c.args.ready_texts.items c.loop-ready.next
     (into_iter_items c.loop-ready.ready-iterator)
     (into_iter_items c.next.new.self) c.in-Some.ready c.loop-ready.invariant.added c.in-Some.ensures.steps.0 _
     c.in-Some-refusal_of_size.fault place refused)

@@ -2,7 +2,7 @@ use Rattle.std.proofs.Common.{◌≡◌, ◌+◌, ◌<◌, ◌⊎◌, ℕ, List,
 use Rattle.std.proofs.lemmas.List.{get_or-set_same, get_or_default}
 use Rattle.kn_system.specs.declared.uses.Block.{Block}
 use Rattle.kn_system.specs.Blocks.{IsSameOrDouble, block_at, list_in}
-use Rattle.kn_system.proofs.Placed.{IsPushed, pushed}
+use Rattle.kn_system.proofs.BlockLists.{IsPushed, pushed}
 use Rattle.kn_system.proofs.uses.Uses.push.Goals as goal
 
 pub returns-clause-placed : goal.returns-clause-placed

@@ -7,7 +7,7 @@ use Rattle.kn_trees.specs.Forests.{tree_at}
 use Rattle.kn_trees.specs.Forms.{links_of}
 use Rattle.kn_trees.specs.Roots.{IsRoot, trees_at}
 use Rattle.kn_trees.specs.declared.program.Expr.TheVariants as E
-use Rattle.kn_trees.proofs.Kinded.{kind_of-Chain}
+use Rattle.kn_trees.proofs.ExprKindLaws.{kind_of-Chain}
 use Rattle.kn_trees.proofs.Roots.{kinds-links_of, length-trees_at, root-found, tree-found, trees-parts, roots-put}
 use Rattle.kn_trees.proofs.Roots.{trees-put}
 use Rattle.kn_trees.proofs.stack.ExprStack.chain.Goals as goal

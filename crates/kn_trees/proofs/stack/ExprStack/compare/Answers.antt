@@ -3,7 +3,7 @@ use Rattle.std.proofs.lemmas.List.{append_assoc}
 use Rattle.kn_trees.specs.ExprKinds.{kind_of}
 use Rattle.kn_trees.specs.Forests.{tree_at}
 use Rattle.kn_trees.specs.declared.program.Expr.TheVariants as E
-use Rattle.kn_trees.proofs.Kinded.{kind_of-Compare}
+use Rattle.kn_trees.proofs.ExprKindLaws.{kind_of-Compare}
 use Rattle.kn_trees.proofs.Roots.{length-trees_at, root-found, tree-found, roots-put, trees-put}
 use Rattle.kn_trees.proofs.stack.ExprStack.compare.Goals as goal
 

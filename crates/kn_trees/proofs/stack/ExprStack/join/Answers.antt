@@ -4,7 +4,7 @@ use Rattle.std.proofs.lemmas.List.Elements.{All-drop}
 use Rattle.kn_trees.specs.ExprKinds.{kind_of}
 use Rattle.kn_trees.specs.Roots.{IsRoot, trees_at}
 use Rattle.kn_trees.specs.Signs.{joined}
-use Rattle.kn_trees.proofs.Kinded.{kind_of-joined}
+use Rattle.kn_trees.proofs.ExprKindLaws.{kind_of-joined}
 use Rattle.kn_trees.proofs.Roots.{kinds-trees_at, trees-parts, roots-put, trees-put}
 use Rattle.kn_trees.proofs.stack.ExprStack.join.Goals as goal
 

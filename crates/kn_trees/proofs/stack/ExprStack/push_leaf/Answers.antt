@@ -1,6 +1,6 @@
 use Rattle.std.proofs.Common.{sym}
 use Rattle.kn_trees.specs.Signs.{leaf_of}
-use Rattle.kn_trees.proofs.Kinded.{kind_of-leaf}
+use Rattle.kn_trees.proofs.ExprKindLaws.{kind_of-leaf}
 use Rattle.kn_trees.proofs.stack.ExprStack.push_leaf.Goals as goal
 
 pub invariant_of-self-2 : goal.invariant_of-self-2

@@ -2,7 +2,7 @@ use Rattle.std.proofs.Common.{◌≡◌, Bool, true, false, List, slice_set, sym
 use Rattle.std.proofs.lemmas.List.{get_or_read}
 use Rattle.kn_watch.specs.Affected.{is_affected}
 use Rattle.kn_watch.specs.Found.{AreFound}
-use Rattle.kn_watch.proofs.Listed.{found-next}
+use Rattle.kn_watch.proofs.FlaggedLists.{found-next}
 use Rattle.kn_watch.proofs.affected.Affected.flag.Goals as goal
 
 pub returns-clause-found : goal.returns-clause-found

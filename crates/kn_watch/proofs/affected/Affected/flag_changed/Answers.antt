@@ -5,7 +5,7 @@ use Rattle.std.proofs.lemmas.Option.{get_or_from_slice_get, slice_get-get_or, sl
 use Rattle.kn_system.specs.Equations.{SystemEquations, row_at}
 use Rattle.kn_watch.specs.declared.changed.Changed.{Changed}
 use Rattle.kn_watch.specs.Affected.{IsSubset, is_affected}
-use Rattle.kn_watch.proofs.Listed.{among-set, flag-kept, flag-set}
+use Rattle.kn_watch.proofs.FlaggedLists.{among-set, flag-kept, flag-set}
 use Rattle.kn_watch.proofs.affected.Affected.flag_changed.Goals as goal
 
 pub loop-place-preserved : goal.loop-place-preserved

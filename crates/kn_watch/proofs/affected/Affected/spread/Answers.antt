@@ -3,12 +3,12 @@ use Rattle.std.proofs.lemmas.List.{length-set}
 use Rattle.kn_system.specs.Equations.{SystemEquations, row_at}
 use Rattle.kn_system.specs.Nodes.{pieces_of, uses_of}
 use Rattle.kn_system.proofs.KeptRows.{length-pieces_of}
-use Rattle.kn_settle.proofs.Used.{IsUse, length-uses, none_of, use_read}
+use Rattle.kn_settle.proofs.VisitedUses.{IsUse, length-uses, none_of, use_read}
 use Rattle.kn_watch.specs.Affected.{IsSubset, is_affected, use_count}
 use Rattle.kn_watch.specs.Climbing.{row_of_node}
-use Rattle.kn_watch.proofs.Listed.{among-set, flag-kept, flag-set, front-next, front-self}
-use Rattle.kn_watch.proofs.Spread.{own-affected, reached-all, reached-next, row-nodes, ticks-end, ticks-within}
-use Rattle.kn_watch.proofs.Spread.{use-ticks, uses-past}
+use Rattle.kn_watch.proofs.FlaggedLists.{among-set, flag-kept, flag-set, front-next, front-self}
+use Rattle.kn_watch.proofs.AffectedSpread.{own-affected, reached-all, reached-next, row-nodes, ticks-end, ticks-within}
+use Rattle.kn_watch.proofs.AffectedSpread.{use-ticks, uses-past}
 use Rattle.kn_watch.proofs.affected.Affected.spread.Goals as goal
 
 pub loop-node-init : goal.loop-node-init

@@ -2,7 +2,7 @@ use mathlib.Core.List.{IsPrefix}
 use Rattle.std.proofs.Common.{◌≡◌, ◌-◌, ◌≤◌, Bool, true, List, length}
 use Rattle.kn_watch.specs.Affected.{IsSubset, HasUsers, is_affected, use_count}
 use Rattle.kn_watch.specs.Found.{AreFound}
-use Rattle.kn_watch.proofs.Spread.{AreReached, AreUseTicks}
+use Rattle.kn_watch.proofs.AffectedSpread.{AreReached, AreUseTicks}
 use Rattle.kn_watch.proofs.affected.Affected.spread.Given as goal
 
 abbrev pub invariant-loop-node : goal.invariant-loop-node

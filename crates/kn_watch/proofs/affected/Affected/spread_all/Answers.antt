@@ -2,8 +2,8 @@ use Rattle.std.proofs.Common.{◌≡◌, ◌<◌, ◌≤◌, ℕ, Some, Bool, tr
 use Rattle.std.proofs.lemmas.Option.{slice_get-get_or}
 use Rattle.kn_system.specs.Equations.{SystemEquations}
 use Rattle.kn_watch.specs.Affected.{IsSubset, is_affected}
-use Rattle.kn_watch.proofs.Listed.{flag-within, found-length, front-kept}
-use Rattle.kn_watch.proofs.Spread.{find-next, find-within, find-within-next, spread-all, spread-next}
+use Rattle.kn_watch.proofs.FlaggedLists.{flag-within, found-length, front-kept}
+use Rattle.kn_watch.proofs.AffectedSpread.{find-next, find-within, find-within-next, spread-all, spread-next}
 use Rattle.kn_watch.proofs.affected.Affected.spread_all.Goals as goal
 
 -- the principal that was read of the list

@@ -1,7 +1,7 @@
 use Rattle.std.proofs.Common.{◌≡◌, ◌-◌, Bool, List, length}
 use Rattle.kn_watch.specs.Affected.{IsSubset, HasUsers}
 use Rattle.kn_watch.specs.Found.{AreFound}
-use Rattle.kn_watch.proofs.Spread.{AreFindTicks, AreSpread}
+use Rattle.kn_watch.proofs.AffectedSpread.{AreFindTicks, AreSpread}
 use Rattle.kn_watch.proofs.affected.Affected.spread_all.Given as goal
 
 abbrev pub invariant-loop-at : goal.invariant-loop-at

@@ -1,4 +1,4 @@
-use Rattle.kn_watch.proofs.Former.{watched-now}
+use Rattle.kn_watch.proofs.FormerLevels.{watched-now}
 use Rattle.kn_watch.proofs.watched.Watched.begin.Goals as goal
 
 pub returns-clause-of : goal.returns-clause-of

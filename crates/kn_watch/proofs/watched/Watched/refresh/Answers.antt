@@ -4,7 +4,7 @@ use Rattle.kn_system.specs.Least.{least_levels}
 use Rattle.kn_watch.specs.declared.changed.Changed.{Changed}
 use Rattle.kn_watch.specs.Changes.{system_before}
 use Rattle.kn_watch.specs.Watched.{IsWatchedOf, WatchedLevels, former_system}
-use Rattle.kn_watch.proofs.Former.{changes-before, changes-within, watched-now}
+use Rattle.kn_watch.proofs.FormerLevels.{changes-before, changes-within, watched-now}
 use Rattle.kn_watch.proofs.watched.Watched.refresh.Goals as goal
 
 pub refresh-requires-clause-in_range : goal.refresh-requires-clause-in_range

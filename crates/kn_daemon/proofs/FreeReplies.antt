@@ -1,0 +1,69 @@
+-- What is replied without a look at the history, and what is replied without more memory.
+use Rattle.std.proofs.Common.{◌≡◌, ℕ, Bool, true, false, List, [], Option, Some, None, refl, sym, ap, ◌∙◌}
+use Rattle.std.specs.Option.{option_or}
+use Rattle.kn_history.specs.declared.update.Update.{Update}
+use Rattle.kn_wire.specs.declared.fault.WireFault.{WireFault}
+use Rattle.kn_reply.specs.declared.refusal.Refusal.{Refusal}
+use Rattle.kn_reply.specs.Replies.{Reply, No, NoMemory}
+use Rattle.kn_daemon.specs.Shapes.{Updating, AddText, DropId, ApplyBlock, Look, ForNew, ForOpen, ForRetained}
+use Rattle.kn_daemon.specs.Shapes.{ForStanding, ForLog, Shape, Calls, Updates, Looks, Asks, Controls, AtFault}
+use Rattle.kn_daemon.specs.Daemon.{DaemonConfig, State, own_refusal, placed_refusal, first_refusal, IsUpdated, IsLooked}
+use Rattle.kn_daemon.specs.Daemon.{Does}
+use Rattle.kn_daemon.specs.Daemon.{Permits}
+use Rattle.kn_daemon.specs.Linearized.{is_placed}
+use Rattle.kn_daemon.specs.Laws.{FewerTakesNoMemory}
+use Rattle.kn_daemon.proofs.Refusals.{history-placed}
+
+both : true ≡ false → ⊥
+both e = cc e
+
+-- an accepted update's reply depends on its place
+updated-placed : (caller : ℕ) (past : List Update) (update : Updating) (reply : Reply)
+    → IsUpdated caller past update reply
+    → is_placed (Updates update) reply ≡ true
+updated-placed caller past (AddText text) reply a = ap (is_placed (Updates (AddText text))) a.2
+updated-placed caller past (DropId k) reply a = ap (is_placed (Updates (DropId k))) a.1
+updated-placed caller past (ApplyBlock block) reply a = ap (is_placed (Updates (ApplyBlock block))) a.2.exact
+
+-- and so does that of an accepted look
+looked-placed : (past : List Update) (old : State) (look : Look) (reply : Reply) → IsLooked past old look reply
+    → is_placed (Looks look) reply ≡ true
+looked-placed past old ForNew reply a = ap (is_placed (Looks ForNew)) a
+looked-placed past old (ForOpen s) reply a = ap (is_placed (Looks (ForOpen s))) a
+looked-placed past old (ForRetained s version) reply a = ap (is_placed (Looks (ForRetained s version))) a.1
+looked-placed past old (ForStanding s) reply a = ap (is_placed (Looks (ForStanding s))) a.news.exact
+looked-placed past old (ForLog n) reply a = ap (is_placed (Looks (ForLog n))) a.1
+
+module _ (g : DaemonConfig) (caller : ℕ) (past other : List Update) (old : State) where
+  done-free : (shape : Shape) (reply : Reply) (new : State) → is_placed shape reply ≡ false
+      → Does g caller past old shape reply new → Does g caller other old shape reply new
+  done-free (Calls s call) reply new free d = record { accepted = d.accepted; answered = d.answered; next = d.next }
+  done-free (Updates update) reply new free d =
+      absurd (both (sym (updated-placed caller past update reply d.answered) ∙ free))
+  done-free (Looks look) reply new free d = absurd (both (sym (looked-placed past old look reply d.answered) ∙ free))
+  done-free (Asks question s names) reply new free d =
+      record { accepted = d.accepted; answered = d.answered; next = d.next }
+  done-free (Controls control) reply new free d = record { accepted = d.accepted; answered = d.answered; next = d.next }
+  done-free (AtFault fault) reply new free d = absurd d.answered
+
+  refused-free : (shape : Shape) (refusal : Refusal) → is_placed shape (No refusal) ≡ false
+      → first_refusal g past old shape ≡ Some refusal → first_refusal g other old shape ≡ Some refusal
+  refused-free shape refusal free = by (own_refusal g old shape)
+    where
+      by : (own : Option Refusal) → option_or own (placed_refusal past shape) ≡ Some refusal
+          → option_or own (placed_refusal other shape) ≡ Some refusal
+      by (Some first) e = e
+      by None e = absurd (both (sym (history-placed past shape refusal e) ∙ free))
+
+  pub unplaced-free : (shape : Shape) (reply : Reply) (new : State) → is_placed shape reply ≡ false
+      → Permits g caller past old shape reply new → Permits g caller other old shape reply new
+  unplaced-free shape (No refusal) new free p = (refused-free shape refusal free p.0, p.1)
+  unplaced-free shape NoMemory new free p = p
+  unplaced-free shape reply new free p = done-free shape reply new free p
+
+pub fewer-takes_no_memory : FewerTakesNoMemory
+fewer-takes_no_memory s k text fault =
+    (never, never, never, never, never, never, never, never, never)
+  where
+    never : (g : DaemonConfig) (caller : ℕ) (past : List Update) (old new : State) → (false ≡ true) × (new ≡ old) → ⊥
+    never g caller past old new p = both (sym p.0)

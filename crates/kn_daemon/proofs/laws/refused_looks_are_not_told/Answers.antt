@@ -1,5 +1,0 @@
-use Rattle.kn_daemon.proofs.Lifetimes.{refused-look_not_told}
-use Rattle.kn_daemon.proofs.laws.refused_looks_are_not_told.Goals as goal
-
-pub returns : goal.returns
-returns c = refused-look_not_told

@@ -1,0 +1,11 @@
+use Rattle.std.proofs.Common.{length, ap, sym, ◌∙◌}
+use Rattle.kn_system.specs.Equations.{SystemEquations, node_total}
+use Rattle.kn_system.specs.KeptRows.{kept_rows}
+use Rattle.kn_system.proofs.KeptRows.{length-pieces_of}
+use Rattle.kn_system.proofs.system.System.nodes.Goals as goal
+
+pub returns : goal.returns
+returns g c =
+    let s = c.self.inside in
+    c.len.ensures.nodes ∙ ap length (sym c.self.invariant.1.pieces) ∙ length-pieces_of (kept_rows s.flat.pieces s.rows)
+    ∙ ap (λ (e : SystemEquations). node_total e.rows) c.self.view_is
