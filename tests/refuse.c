@@ -1,5 +1,6 @@
-/* Refuses the memory of a program at its allocations number REFUSE_FIRST to REFUSE_LAST, counted from 1, and writes to the
-   descriptor REFUSE_TOLD how many it made. tests/memory builds it, and LD_PRELOAD puts it before the C library. */
+/* Refuses the memory of a program at its allocations number REFUSE_FIRST to REFUSE_LAST, counted from 1, and writes to
+   the descriptor REFUSE_TOLD how many it made. tests/memory and tests/query build it, and LD_PRELOAD puts it before the
+   C library. */
 
 #include <errno.h>
 #include <stdatomic.h>
