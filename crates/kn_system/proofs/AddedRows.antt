@@ -1,13 +1,15 @@
 -- A well-formed system stays so as principals and rows are added.
-use Rattle.std.proofs.Common.{◌≡◌, ℕ, zero, suc, ◌+◌, ◌<◌, ◌≤◌, ◌^◌, Bool, true, false, List, [], ◌∷◌, ◌++◌, length}
-use Rattle.std.proofs.Common.{slice_index_or, arith}
-use Rattle.std.proofs.lemmas.List.Elements.{All-weaker, All-push}
+use Rattle.std.proofs.Common.{◌≡◌, ℕ, zero, suc, ◌+◌, ◌<◌, ◌≤◌, ◌^◌, Bool, true, false, List, [], ◌∷◌, ◌++◌, All}
+use Rattle.std.proofs.Common.{length}
+use Rattle.std.proofs.Common.{slice_index_or, refl, arith}
+use Rattle.std.proofs.lemmas.List.Elements.{All-head, All-push, All-tail, All-weaker}
 use Rattle.kn_system.specs.declared.rows.Piece.{Piece}
 use Rattle.kn_system.specs.declared.rows.Piece.TheVariants.{Who, Gate}
 use Rattle.kn_system.specs.Rows.{SystemRow}
 use Rattle.kn_system.specs.Equations.{IsSystemRow, IsSystem, node_total, leaf_total}
 use Rattle.kn_system.specs.Form.{leaf_count}
 use Rattle.kn_system.specs.Forms.{AreForms, IsFormula}
+use Rattle.kn_system.specs.Nodes.{pieces_of}
 
 AreForms-more : (p q : ℕ) → p ≤ q → (n : ℕ) (ps : List Piece) → AreForms p n ps → AreForms q n ps
 AreForms-more p q l zero [] h = tt
@@ -45,22 +47,21 @@ pub node_total-push : (rows : List SystemRow) (row : SystemRow)
 node_total-push [] row = omega arith
 node_total-push (first ∷ rows) row = let rest = node_total-push rows row in omega arith
 
-pub leaf_total-push : (rows : List SystemRow) (row : SystemRow)
-    → leaf_total (rows ++ row ∷ []) ≡ leaf_total rows + leaf_count row.formula
-leaf_total-push [] row = omega arith
-leaf_total-push (first ∷ rows) row = let rest = leaf_total-push rows row in omega arith
+pub leaf_count-append : (ps qs : List Piece) → leaf_count (ps ++ qs) ≡ leaf_count ps + leaf_count qs
+leaf_count-append [] qs = omega arith
+leaf_count-append (Who p ∷ ps) qs = let rest = leaf_count-append ps qs in omega arith
+leaf_count-append (Gate k m ∷ ps) qs = leaf_count-append ps qs
 
-leaf_count-le : (ps : List Piece) → leaf_count ps ≤ length ps
+pub leaf_count-le : (ps : List Piece) → leaf_count ps ≤ length ps
 leaf_count-le [] = omega arith
 leaf_count-le (Who p ∷ ps) = let rest = leaf_count-le ps in omega arith
 leaf_count-le (Gate k m ∷ ps) = let rest = leaf_count-le ps in omega arith
 
-pub leaf_total-le : (rows : List SystemRow) → leaf_total rows ≤ node_total rows
-leaf_total-le [] = omega arith
-leaf_total-le (row ∷ rows) =
-    let rest = leaf_total-le rows in
-    let here = leaf_count-le row.formula in
-    omega arith
+-- the principals in the formulas, one after another
+pub leaf_count-pieces_of : (rows : List SystemRow) → leaf_count (pieces_of rows) ≡ leaf_total rows
+leaf_count-pieces_of [] = refl
+leaf_count-pieces_of (row ∷ rows) = let rest = leaf_count-pieces_of rows in
+    omega (arith, leaf_count-append row.formula (pieces_of rows))
 
 -- with one more row
 pub IsSystem-more_rows : (levels : ℕ) (requesters : List Bool) (rows : List SystemRow) (row : SystemRow)
@@ -81,3 +82,16 @@ pub node_total-ge : (rows : List SystemRow) (i : ℕ) (d : SystemRow) → i < le
 node_total-ge [] i d l = absurd (omega arith)
 node_total-ge (row ∷ rows) zero d l = omega arith
 node_total-ge (row ∷ rows) (suc i) d l = let rest = node_total-ge rows i d (omega arith) in omega arith
+
+-- each row has a node
+form_some : (p : ℕ) (ps : List Piece) → AreForms p 1 ps → 0 < length ps
+form_some p [] h = absurd h
+form_some p (x ∷ ps) h = omega arith
+
+pub length-rows_le : (levels p : ℕ) (rows : List SystemRow) → All (IsSystemRow levels p) rows
+    → length rows ≤ node_total rows
+length-rows_le levels p [] h = omega arith
+length-rows_le levels p (row ∷ rows) h =
+    let first = form_some p row.formula (All-head (IsSystemRow levels p) row rows h).formula.one in
+    let rest = length-rows_le levels p rows (All-tail (IsSystemRow levels p) row rows h) in
+    omega (arith, first, rest)

@@ -59,6 +59,10 @@ pub who_read : (principals i p : ℕ) (ps : List Piece) (d : Piece) → AreSpelt
 who_read principals i p ps d h l is =
     (subst (AreSpelt principals) (piece_at ps i d (Who p) l is) (AreSpelt-drop principals i ps h)).0
 
+pub who_done : (top i p : ℕ) (xs : List ℕ) (ps : List Piece) (d : Piece) → i < length ps → get_or ps i d ≡ Who p
+    → form_levels top xs (drop i ps) ≡ slice_index xs p ∷ form_levels top xs (drop (i + 1) ps)
+who_done top i p xs ps d l is = ap (form_levels top xs) (piece_at ps i d (Who p) l is)
+
 -- behind a gate that was read stand as many formulas as it counts
 pub gate_read : (principals i k n : ℕ) (ps : List Piece) (d : Piece) → AreSpelt principals ps → i < length ps
     → get_or ps i d ≡ Gate k n → n ≤ form_count (drop (i + 1) ps)

@@ -11,8 +11,8 @@ pub mod SettlingByLevels
 pub mod Exists
 pub mod ProofSizes
 pub mod NodeCounts
-pub mod BlockLists
 pub mod NodeLists
+pub mod LinkedUses
 pub mod NodeLinks
 pub mod KeptRows
 pub mod WithoutLast

@@ -1,7 +1,9 @@
 -- What the nodes of formulas are parts of, read node by node.
-use Rattle.std.proofs.Common.{◌≡◌, ℕ, zero, suc, ◌+◌, ◌<◌, List, [], ◌∷◌, ◌++◌, length, drop, replicate, reverse, refl}
-use Rattle.std.proofs.Common.{sym, ap, ◌∙◌, subst, length-append, arith}
+use Rattle.std.proofs.Common.{◌≡◌, ℕ, zero, suc, ◌+◌, ◌<◌, ◌^◌, All, List, [], ◌∷◌, ◌++◌, length, drop, replicate}
+use Rattle.std.proofs.Common.{reverse, refl}
+use Rattle.std.proofs.Common.{sym, ap, ◌∙◌, subst, length-append, Some, arith}
 use Rattle.std.proofs.lemmas.List.{reverse-append, replicate_more, length-replicate, length_push}
+use Rattle.std.proofs.lemmas.List.Elements.{All-append, All-pop, All-replicate}
 use Rattle.std.proofs.Math.Seq.{append_snoc}
 use Rattle.kn_system.specs.declared.nodes.Up.{Up}
 use Rattle.kn_system.specs.declared.nodes.Up.TheVariants.{Node}
@@ -9,6 +11,7 @@ use Rattle.kn_system.specs.declared.rows.Piece.{Piece}
 use Rattle.kn_system.specs.declared.rows.Piece.TheVariants.{Who, Gate}
 use Rattle.kn_system.specs.Forms.{AreForms}
 use Rattle.kn_system.specs.Nodes.{parts_of, ups_of}
+use Rattle.kn_system.specs.StoredNodes.{number_of_up}
 
 -- behind a piece the formulas go on
 pub forms_next : (p n : ℕ) (x : Piece) (ps : List Piece) → AreForms p (suc n) (x ∷ ps) → AreForms p (n + parts_of x) ps
@@ -79,3 +82,15 @@ added_next formula base start before ups above k x up node next_ups next_above h
           ∙ sym (append_snoc ups up (ups_of (base + (k + 1)) (reverse next_above) rest))
           ∙ ap (λ ys. ys ++ ups_of (base + (k + 1)) (reverse next_above) rest) (sym pushed);
     }
+
+-- the numbers in what the last nodes are parts of, where one is taken away and the parts of a node come behind
+pub low_next : (above next us : List Up) (up : Up) (n node : ℕ) → All (λ u. number_of_up u < 2 ^ 24) above
+    → above ≡ us ++ up ∷ [] → next ≡ us ++ replicate n (Node node) → node < 2 ^ 24
+    → (number_of_up up < 2 ^ 24) × All (λ u. number_of_up u < 2 ^ 24) next
+low_next above next us up n node low is after few =
+    let P : Up → Type 0 = (λ u. number_of_up u < 2 ^ 24) in
+    let parts = All-pop P above us (Some up) is low in (
+      parts.1,
+      subst (All P) (sym after)
+          (All-append P us (replicate n (Node node)) parts.0 (All-replicate P n (Node node) few)),
+    )

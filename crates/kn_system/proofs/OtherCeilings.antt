@@ -5,8 +5,7 @@ use Rattle.std.proofs.lemmas.List.{length-map, length-set, map-set}
 use Rattle.std.proofs.lemmas.List.Elements.{All-set}
 use Rattle.kn_system.specs.declared.rows.Piece.{Piece}
 use Rattle.kn_system.specs.declared.rows.StoredRow.{StoredRow}
-use Rattle.kn_system.specs.Equations.{IsSystem, IsSystemRow, leaf_total, node_total, recapped, row_at}
-use Rattle.kn_system.specs.Form.{leaf_count}
+use Rattle.kn_system.specs.Equations.{IsSystem, IsSystemRow, node_total, recapped, row_at}
 use Rattle.kn_system.specs.KeptRows.{AreEndToEnd, AreKept, kept_row, kept_rows}
 use Rattle.kn_system.specs.Nodes.{FlatNodes, pieces_of, row_ups, ups_of, ups_of_rows}
 use Rattle.kn_system.specs.Rows.{SystemRow}
@@ -21,11 +20,6 @@ pub nodes-recapped : (rows : List SystemRow) (i ceiling : ℕ) → node_total (r
 nodes-recapped [] i ceiling = refl
 nodes-recapped (row ∷ rows) zero ceiling = refl
 nodes-recapped (row ∷ rows) (suc i) ceiling = ap (λ n. length row.formula + n) (nodes-recapped rows i ceiling)
-
-leaves-recapped : (rows : List SystemRow) (i ceiling : ℕ) → leaf_total (recapped rows i ceiling) ≡ leaf_total rows
-leaves-recapped [] i ceiling = refl
-leaves-recapped (row ∷ rows) zero ceiling = refl
-leaves-recapped (row ∷ rows) (suc i) ceiling = ap (λ n. leaf_count row.formula + n) (leaves-recapped rows i ceiling)
 
 ups-recapped : (rows : List SystemRow) (i ceiling : ℕ) → ups_of_rows (recapped rows i ceiling) ≡ ups_of_rows rows
 ups-recapped rows i ceiling =
@@ -63,7 +57,6 @@ pub record IsRecapped (levels : ℕ) (requesters : List Bool) (rows new : List S
   pub kept : AreKept new flat
   pub same : kept_rows flat.pieces new ≡ recapped (kept_rows flat.pieces rows) i ceiling
   pub fits : IsSystem (record { levels = levels; requesters = requesters; rows = kept_rows flat.pieces new })
-  pub leaves : leaf_total (kept_rows flat.pieces rows) ≡ leaf_total (kept_rows flat.pieces new)
 
 pub is_recapped : (levels : ℕ) (requesters : List Bool) (rows new : List StoredRow) (flat : FlatNodes) (i ceiling : ℕ)
     (d : StoredRow) → i < length rows → ceiling < levels
@@ -101,5 +94,4 @@ is_recapped levels requesters rows new flat i ceiling d within low e fits kept =
             rows_fit = All-set (IsSystemRow levels (length requesters)) old i capped
                 (record { authorizer = row.authorizer; ceiling = low; formula = row.formula }) fits.rows_fit;
           });
-      leaves = sym (ap leaf_total same ∙ leaves-recapped old i ceiling);
     }

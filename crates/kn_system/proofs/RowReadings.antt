@@ -1,23 +1,14 @@
 -- What a system's rows say when one is read and its formula evaluated.
-use Rattle.std.proofs.Common.{◌≡◌, ℕ, suc, ◌<◌, ◌≤◌, ◌^◌, List, [], ◌∷◌, length, drop, get_or, refl, sym, ap, ◌∙◌}
+use Rattle.std.proofs.Common.{◌≡◌, ℕ, suc, ◌<◌, ◌≤◌, ◌^◌, List, [], ◌∷◌, length, drop, refl, sym, ap}
 use Rattle.std.proofs.Common.{subst, arith}
-use Rattle.std.proofs.lemmas.List.{get_or_default, length-drop}
+use Rattle.std.proofs.lemmas.List.{length-drop}
 use Rattle.kn_system.specs.declared.rows.Piece.{Piece}
 use Rattle.kn_system.specs.declared.rows.Piece.TheVariants.{Who, Gate}
-use Rattle.kn_system.specs.Rows.{SystemRow}
 use Rattle.kn_system.specs.Equations.{SystemEquations, IsSystemRow, IsSystem, row_at, node_total}
 use Rattle.kn_system.specs.Form.{form_levels}
 use Rattle.kn_system.specs.Forms.{AreForms, AreSpelt, form_count}
 use Rattle.kn_system.proofs.FormulasBehind.{forms-spelt, form_count-forms, length-form_levels}
 use Rattle.kn_system.proofs.AddedRows.{node_total-ge}
-
--- the pieces that were read are the row's formula
-pub formula_read : (s : SystemEquations) (rows : List SystemRow) (i : ℕ) (r : SystemRow) (pieces : List Piece)
-    → rows ≡ s.rows → i < length s.rows → pieces ≡ (get_or rows i r).formula → pieces ≡ (row_at s.rows i).formula
-formula_read s rows i r pieces same l e =
-    e ∙ ap (λ rs. (get_or rs i r).formula) same
-    ∙ ap (λ (row : SystemRow). row.formula)
-    (get_or_default s.rows i r (record { authorizer = 0; ceiling = 0; formula = [] }) l)
 
 -- no formula is empty
 form_count-none : (ps : List Piece) → form_count ps ≡ 0 → length ps ≡ 0

@@ -1,9 +1,9 @@
 -- What a system is without its last row, and without its last principal.
-use Rattle.std.proofs.Common.{◌≡◌, ℕ, zero, suc, ◌+◌, ◌-◌, ◌<◌, ◌≤◌, ◌^◌, Bool, true, false, List, [], ◌∷◌, ◌++◌, All}
+use Rattle.std.proofs.Common.{◌≡◌, ℕ, suc, ◌+◌, ◌-◌, ◌<◌, ◌≤◌, Bool, false, List, [], ◌∷◌, ◌++◌, All}
 use Rattle.std.proofs.Common.{length, length-append, replicate, take, drop, Option, None, Some, refl, sym, ap, ◌∙◌}
 use Rattle.std.proofs.Common.{subst, arith}
 use Rattle.std.specs.Prelude.{MatchOption}
-use Rattle.std.proofs.lemmas.List.{take-append-le, take_all, length-take, length-drop, length-map, length_push}
+use Rattle.std.proofs.lemmas.List.{take-append-le, take_all, length-take, length-drop, length_push}
 use Rattle.std.proofs.lemmas.List.{length-replicate, map_push}
 use Rattle.std.proofs.lemmas.List.Elements.{All-cons, All-nil, All-take, All-weaker}
 use Rattle.kn_system.specs.declared.nodes.Up.{Up}
@@ -11,13 +11,12 @@ use Rattle.kn_system.specs.declared.nodes.Up.TheVariants.{Node, Row}
 use Rattle.kn_system.specs.declared.rows.Piece.{Piece}
 use Rattle.kn_system.specs.declared.rows.Piece.TheVariants.{Who, Gate}
 use Rattle.kn_system.specs.declared.rows.StoredRow.{StoredRow}
-use Rattle.kn_system.specs.Equations.{IsRowOver, IsSystem, IsSystemRow, leaf_total, node_total}
-use Rattle.kn_system.specs.Form.{leaf_count}
+use Rattle.kn_system.specs.Equations.{IsRowOver, IsSystem, IsSystemRow}
 use Rattle.kn_system.specs.Forms.{AreForms}
 use Rattle.kn_system.specs.KeptRows.{AreEndToEnd, AreKept, kept_row, kept_rows}
 use Rattle.kn_system.specs.Nodes.{FlatNodes, pieces_of, row_ups, ups_of, ups_of_rows}
 use Rattle.kn_system.specs.Rows.{SystemRow}
-use Rattle.kn_system.proofs.AddedRows.{IsFormula-more, leaf_total-push, node_total-push}
+use Rattle.kn_system.proofs.AddedRows.{IsFormula-more, node_total-push}
 use Rattle.kn_system.proofs.KeptRows.{forms-pieces_of, kept-all, length-row_ups, pieces_of-push, ups_of_rows-push}
 
 -- all but the last of a list
@@ -119,11 +118,7 @@ kept_less levels p rows last flat new fit kept pieces_left ups_left =
       popped = whole ∙ ap (λ (rs : List SystemRow). rs ++ row ∷ []) (sym same);
     }
 
--- the rows that a system keeps, and the last of them
-pub kept_popped : (pieces : List Piece) (rows all : List StoredRow) (last : StoredRow) → all ≡ rows ++ last ∷ []
-    → kept_rows pieces all ≡ kept_rows pieces rows ++ kept_row pieces last ∷ []
-kept_popped pieces rows all last e = ap (kept_rows pieces) e ∙ map_push (kept_row pieces) rows last
-
+-- where the last row ends
 pub last_ends : (rows all : List StoredRow) (last : StoredRow) (flat : FlatNodes) → all ≡ rows ++ last ∷ []
     → AreKept all flat → last.start + last.size ≡ length flat.pieces
 last_ends rows all last flat e kept =

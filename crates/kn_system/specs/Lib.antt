@@ -1,14 +1,15 @@
 pub use Rattle.kn_base.specs.Threshold
-pub mod Blocks
 pub mod Counts
 pub mod Equations
 pub mod Form
 pub mod Forms
 pub mod KeptRows
 pub mod Least
+pub mod LinkedNodes
 pub mod Nodes
 pub mod Order
 pub mod Lawful
 pub mod Proofs
 pub mod Rows
 pub mod Settled
+pub mod StoredNodes

@@ -1,14 +1,13 @@
 -- The nodes of a system's formulas in one list, what each is a part of, and where each principal stands (keynoted's
 -- own).
-use Rattle.std.specs.Prelude.{ℕ, zero, suc, ◌≡◌, ◌==◌, List, [], ◌∷◌, ◌++◌, length, replicate, if◌then◌else◌}
+use Rattle.std.specs.Prelude.{ℕ, zero, suc, ◌==◌, List, [], ◌∷◌, ◌++◌, length, replicate, slice_get, Option, None}
+use Rattle.std.specs.Prelude.{if◌then◌else◌}
 use Rattle.kn_system.specs.declared.nodes.NodeSort.{NodeSort}
 use Rattle.kn_system.specs.declared.nodes.NodeSort.TheVariants.{Leaf, Gate as GateNode}
 use Rattle.kn_system.specs.declared.nodes.Up.{Up}
 use Rattle.kn_system.specs.declared.nodes.Up.TheVariants.{Node, Row}
 use Rattle.kn_system.specs.declared.rows.Piece.{Piece}
 use Rattle.kn_system.specs.declared.rows.Piece.TheVariants.{Who, Gate}
-use Rattle.kn_system.specs.declared.uses.Block.{Block}
-use Rattle.kn_system.specs.Blocks.{block_at, list_in}
 use Rattle.kn_system.specs.Rows.{SystemRow}
 
 -- the pieces of all formulas, one after another
@@ -52,11 +51,12 @@ uses_from p i (Gate k n ∷ ps) = uses_from p (suc i) ps
 abbrev pub uses_of : ℕ → List Piece → List ℕ
 uses_of p ps = uses_from p 0 ps
 
+-- the use before the k-th one, counted from 0, and none before the first
+abbrev pub use_before_at : List ℕ → ℕ → Option ℕ
+use_before_at uses zero = None
+use_before_at uses (suc k) = slice_get uses k
+
 -- formulas in one list
 pub record FlatNodes : Type 0 where
   pub pieces : List Piece
   pub ups : List Up
-
--- the lists in blocks are the uses of each principal
-abbrev pub AreUses : List Piece → List Block → List ℕ → Type 0
-AreUses pieces blocks nodes = (p : ℕ) → list_in nodes (block_at blocks p) ≡ uses_of p pieces

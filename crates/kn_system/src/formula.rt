@@ -1,26 +1,13 @@
-//! Formulas as lists of pieces.
+//! The levels of formulas.
 ghost use Rattle.std.specs.Prelude.{◌≡◌, ◌+◌, ◌-◌, ◌^◌, ◌<◌, ◌≤◌, ◌∷◌, [], ℕ, All, length, drop, min, List as ListOf};
 ghost use Rattle.kn_base.specs.Threshold.{threshold};
-ghost use Rattle.kn_system.specs.Form.{form_levels, leaf_count as leaf_count_of};
+ghost use Rattle.kn_system.specs.Form.{form_levels};
 ghost use Rattle.kn_system.specs.Forms.{AreSpelt, AreTallied};
+ghost use Rattle.kn_system.specs.LinkedNodes.{node_pieces};
 
 use crate::rows::Piece;
+use crate::stored_node::StoredNode;
 use kn_base::Steps;
-
-/// How many pieces are principals, each counted as often as it stands there.
-pub fn leaf_count(pieces: &[Piece]) -> u32
-    requires { length pieces.now < 2 ^ 32 }
-    ensures exact { result ≡ leaf_count_of pieces.now }
-    ensures few { result ≤ length pieces.now }
-{
-    let mut leaves = 0;
-    for piece in pieces {
-        if let Piece::Who(_) = piece {
-            leaves += 1;
-        }
-    }
-    leaves
-}
 
 // A count of 0 for each level: there are 64 at most (`MOST_COMPLIANCE_VALUES`).
 fn empty_tally() -> [u32; 64]
@@ -50,32 +37,32 @@ fn threshold_of(tally: &[u32; 64], need: u32, top: u8) -> u8
 }
 
 /// The level of the formula that begins at a place, and the place behind it. One tick for each of its nodes.
-pub fn level_at<L>(
-    pieces: &[Piece],
+pub(crate) fn level_at<L>(
+    nodes: &[StoredNode],
     at: usize,
     top: u8,
     values: &[u8],
     steps: &mut Steps<L>,
 ) -> (u8, usize)
-    requires spelt { AreSpelt (length values.now) pieces.now }
-    requires at_in_range { at < length pieces.now }
+    requires spelt { AreSpelt (length values.now) (node_pieces nodes.now) }
+    requires at_in_range { at < length nodes.now }
     requires top_in_range { top < 64 }
     requires low { All (λ level. level ≤ top) values.now }
-    ensures level { form_levels top values.now (drop at pieces.now)
-        ≡ result.0 ∷ form_levels top values.now (drop result.1 pieces.now) }
+    ensures level { form_levels top values.now (drop at (node_pieces nodes.now))
+        ≡ result.0 ∷ form_levels top values.now (drop result.1 (node_pieces nodes.now)) }
     ensures low { result.0 ≤ top }
     ensures further { at < result.1 }
-    ensures inside { result.1 ≤ length pieces.now }
+    ensures inside { result.1 ≤ length nodes.now }
     ensures ticks { steps.new ≡ min (steps.old + (result.1 - at)) (2 ^ 64 - 1) }
 {
     steps.tick();
-    match pieces[at] {
+    match nodes[at].piece() {
         Piece::Who(principal) => (values[principal as usize], at + 1),
         Piece::Gate { need, count } => {
             let mut tally = empty_tally();
             let mut next = at + 1;
             for _part in 0..count {
-                let (level, behind) = level_at(pieces, next, top, values, steps);
+                let (level, behind) = level_at(nodes, next, top, values, steps);
                 tally[level as usize] += 1;
                 next = behind;
             }

@@ -2,12 +2,13 @@
 #![tactic(auto)]
 
 mod formula;
+mod last_uses;
 pub mod laws;
 mod node_table;
 mod nodes;
 mod rows;
+mod stored_node;
 mod system;
-mod uses;
 
 pub use nodes::{Node, NodeSort, Up};
 pub use rows::Piece;

@@ -1,12 +1,13 @@
 //! The system of a query: its equations over numbered principals.
-ghost use Rattle.std.specs.Prelude.{◌≡◌, ◌+◌, ◌-◌, ◌^◌, ◌<◌, ◌≤◌, [], ◌∷◌, ◌++◌};
+ghost use Rattle.std.specs.Prelude.{◌≡◌, ◌+◌, ◌-◌, ◌^◌, ◌<◌, ◌≤◌, [], ◌∷◌, ◌++◌, ℕ, Some};
 ghost use Rattle.std.specs.Prelude.{All, IfOk, OnErr, false, length, min, slice_get, slice_index_or, take};
 ghost use Rattle.kn_base.specs.declared.limits.TheConstants.{FEWEST_COMPLIANCE_VALUES, MOST_COMPLIANCE_VALUES};
 
-use crate::formula::{leaf_count, level_at};
+use crate::formula::level_at;
 use crate::node_table::NodeTable;
 use crate::nodes::Node;
 use crate::rows::{Piece, StoredRow};
+use crate::stored_node::StoredNode;
 use kn_base::{List, NoMemory, Steps};
 use std::alloc::Global;
 use std::marker::Model;
@@ -23,12 +24,11 @@ pub struct System<L> {
     others: List<bool>,
     rows: List<StoredRow>,
     flat: NodeTable,
-    leaves: u32,
 }
 
 impl<L> Model for System<L> {
-    ghost use Rattle.std.specs.Prelude.{◌≡◌, ◌∷◌, false};
-    ghost use Rattle.kn_system.specs.Equations.{SystemEquations, IsSystem, leaf_total};
+    ghost use Rattle.std.specs.Prelude.{◌∷◌, false};
+    ghost use Rattle.kn_system.specs.Equations.{SystemEquations, IsSystem};
     ghost use Rattle.kn_system.specs.KeptRows.{AreKept, kept_rows};
 
     ghost Value = { SystemEquations };
@@ -41,7 +41,7 @@ impl<L> Model for System<L> {
 
     ghost invariant = { λ s.
         IsSystem (record { levels = s.levels; requesters = false ∷ s.others; rows = kept_rows s.flat.pieces s.rows })
-        × AreKept s.rows s.flat × (s.leaves ≡ leaf_total (kept_rows s.flat.pieces s.rows)) };
+        × AreKept s.rows s.flat };
 }
 
 impl<L> System<L> {
@@ -51,7 +51,8 @@ impl<L> System<L> {
     ghost use Rattle.kn_system.specs.Forms.{IsFormula};
     ghost use Rattle.kn_system.specs.Lawful.{AreLevels};
     ghost use Rattle.kn_system.specs.Least.{at_first};
-    ghost use Rattle.kn_system.specs.Nodes.{pieces_of, sort_of, ups_of_rows, uses_of};
+    ghost use Rattle.kn_system.specs.LinkedNodes.{node_pieces};
+    ghost use Rattle.kn_system.specs.Nodes.{pieces_of, sort_of, ups_of_rows, use_before_at, uses_of};
     ghost use Rattle.kn_system.specs.declared.nodes.Up.TheVariants.{Row};
     ghost use Rattle.kn_system.specs.declared.rows.Piece.TheVariants.{Who};
 
@@ -67,7 +68,6 @@ impl<L> System<L> {
             others: List::new(alloc),
             rows: List::new(alloc),
             flat: NodeTable::new(alloc),
-            leaves: 0,
         }
     }
 
@@ -108,7 +108,6 @@ impl<L> System<L> {
     {
         let number = self.rows.len();
         let start = self.flat.len();
-        let leaves = leaf_count(formula.as_slice());
         self.flat.add(formula.as_slice(), number)?;
         let row = StoredRow {
             authorizer,
@@ -117,10 +116,7 @@ impl<L> System<L> {
             size: formula.len(),
         };
         match self.rows.push(row) {
-            Ok(()) => {
-                self.leaves += leaves;
-                Ok(number)
-            }
+            Ok(()) => Ok(number),
             Err(_) => {
                 self.flat.shorten(start);
                 Err(NoMemory)
@@ -146,10 +142,7 @@ impl<L> System<L> {
         ensures { self.new ≡ record self.old { rows = take (length self.old.rows - 1) self.old.rows } }
     {
         match self.rows.pop() {
-            Some(row) => {
-                self.leaves -= leaf_count(self.flat.pieces(row.start, row.size));
-                self.flat.shorten(row.start);
-            }
+            Some(row) => self.flat.shorten(row.start),
             None => {}
         }
     }
@@ -212,7 +205,7 @@ impl<L> System<L> {
     pub fn uses_total(&self) -> u32
         ensures { result ≡ leaf_total self.now.rows }
     {
-        self.leaves
+        self.flat.leaves()
     }
 
     /// The number of levels.
@@ -289,23 +282,36 @@ impl<L> System<L> {
         &self.rows.as_slice()[row as usize]
     }
 
-    fn formula(&self, row: u32) -> &[Piece]
+    // The nodes of a row's formula.
+    fn formula(&self, row: u32) -> &[StoredNode]
         requires in_range { row < length self.now.rows }
-        ensures exact { result.now ≡ (row_at self.now.rows row).formula }
+        ensures exact { node_pieces result.now ≡ (row_at self.now.rows row).formula }
         ensures well_formed { IsSystem self.now }
     {
         let stored = self.rows.as_slice()[row as usize];
-        self.flat.pieces(stored.start, stored.size)
+        self.flat.nodes(stored.start, stored.size)
     }
 
-    /// The node that is the principal's `k`-th use, counted from 0, or None where it has no more than `k`. One tick.
-    pub fn uses(&self, principal: u32, k: u32, steps: &mut Steps<L>) -> Option<u32>
+    /// The last node that is the principal, or None where none is. One tick.
+    pub fn last_use(&self, principal: u32, steps: &mut Steps<L>) -> Option<u32>
         requires { principal < length self.now.requesters }
-        ensures exact { result ≡ slice_get (uses_of principal (pieces_of self.now.rows)) k }
+        ensures exact { result ≡ use_before_at (uses_of principal (pieces_of self.now.rows))
+            (length (uses_of principal (pieces_of self.now.rows))) }
         ensures ticks { steps.new ≡ min (steps.old + 1) (2 ^ 64 - 1) }
     {
         steps.tick();
-        self.flat.use_at(principal, k)
+        self.flat.last_use(principal)
+    }
+
+    /// The use of the same principal before this node, or None where it is the first one. One tick.
+    pub fn use_before(&self, node: u32, steps: &mut Steps<L>) -> Option<u32>
+        requires { node < node_total self.now.rows }
+        ensures exact { (principal k : ℕ) → slice_get (uses_of principal (pieces_of self.now.rows)) k ≡ Some node
+            → result ≡ use_before_at (uses_of principal (pieces_of self.now.rows)) k }
+        ensures ticks { steps.new ≡ min (steps.old + 1) (2 ^ 64 - 1) }
+    {
+        steps.tick();
+        self.flat.use_before(node)
     }
 
     /// What a node is and what it is a part of. One tick.

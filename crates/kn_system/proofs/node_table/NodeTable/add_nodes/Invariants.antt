@@ -1,5 +1,6 @@
-use Rattle.std.proofs.Common.{◌≡◌, ◌++◌, ◌∷◌, [], ◌≤◌, length, take}
+use Rattle.std.proofs.Common.{◌≡◌, ◌++◌, ◌∷◌, [], ◌<◌, ◌≤◌, ◌^◌, All, length, take}
 use Rattle.kn_system.specs.declared.nodes.Up.TheVariants.{Row}
+use Rattle.kn_system.specs.StoredNodes.{number_of_up}
 use Rattle.kn_system.proofs.NodeLinks.{AreAdded}
 use Rattle.kn_system.proofs.node_table.NodeTable.add_nodes.Given as goal
 
@@ -10,4 +11,5 @@ invariant-loop-piece l = record {
       l.piece-index;
   kept_ups : take (length l.fn.self.ups) l.self.ups ≡ l.fn.self.ups;
   longer : length l.fn.self.ups ≤ length l.self.ups;
+  low : All (λ up. number_of_up up < 2 ^ 24) l.above.items;
 }

@@ -20,7 +20,6 @@ invariant_of-self g c =
       IsSystem-less_principals s.levels s.others c.pop-last.new.self rows (omega (arith, size))
           (subst (λ n. All (IsRowOver n) rows) same over) c.self.invariant.0,
       c.self.invariant.1,
-      c.self.invariant.2,
     )
 
 pub returns : goal.returns

@@ -1,20 +1,10 @@
 use Rattle.std.proofs.Common.{◌≡◌, ◌-◌, ◌++◌, ◌∷◌, [], false, List, length, take, sym, ap, ◌∙◌, subst, arith}
-use Rattle.kn_system.specs.Equations.{SystemEquations, IsSystem, leaf_total}
-use Rattle.kn_system.specs.Form.{leaf_count}
+use Rattle.kn_system.specs.Equations.{SystemEquations, IsSystem}
 use Rattle.kn_system.specs.KeptRows.{kept_row, kept_rows}
 use Rattle.kn_system.specs.Rows.{SystemRow}
-use Rattle.kn_system.proofs.AddedRows.{leaf_total-push}
-use Rattle.kn_system.proofs.WithoutLast.{IsKeptLess, IsSystem-less_rows, kept_popped, last_ends, popped_less}
+use Rattle.kn_system.proofs.WithoutLast.{IsKeptLess, IsSystem-less_rows, last_ends, popped_less}
 use Rattle.kn_system.proofs.WithoutLast.{take-popped}
 use Rattle.kn_system.proofs.system.System.pop_row.Goals as goal
-
-pub overflow_sub-self : goal.overflow_sub-self
-overflow_sub-self g c =
-    let s = c.self.inside in
-    let whole = kept_popped s.flat.pieces c.pop.new.self s.rows c.in-Some.row c.in-Some.ensures in
-    let leaves = ap leaf_total whole
-    ∙ leaf_total-push (kept_rows s.flat.pieces c.pop.new.self) (kept_row s.flat.pieces c.in-Some.row) in
-    omega (arith, c.self.invariant.2, leaves, c.leaf_count.ensures.exact, ap leaf_count c.pieces.ensures)
 
 pub shorten-requires : goal.shorten-requires
 shorten-requires g c =
@@ -37,14 +27,6 @@ invariant_of-self g c =
     whole c.self.invariant.0) in (
       fits,
       less.kept,
-      omega (
-        arith,
-        c.self.invariant.2,
-        ap leaf_total whole,
-        leaf_total-push rows row,
-        c.leaf_count.ensures.exact,
-        ap leaf_count c.pieces.ensures,
-      ),
     )
 
 pub returns-in-Some : goal.returns-in-Some

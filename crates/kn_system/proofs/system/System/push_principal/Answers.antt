@@ -19,7 +19,6 @@ invariant_of-self g c =
             IsSystem-more_principals s.levels (false ∷ s.others) (false ∷ c.push.new.self)
                 (kept_rows s.flat.pieces s.rows) more fit refl c.self.invariant.0,
             c.self.invariant.1,
-            c.self.invariant.2,
           )
       | in-Err w ↦ rw w.in-Err.ensures.err c.self.invariant
     ]

@@ -22,7 +22,7 @@ invariant_of-self g c =
     ∙ ap (λ (rs : List StoredRow).
     slice_set s.rows c.args.row (stored_with (get_or rs c.args.row none) c.args.ceiling)) c.as_slice.ensures)
     c.self.invariant.0 c.self.invariant.1 in
-    (is.fits, is.kept, c.self.invariant.2 ∙ is.leaves)
+    (is.fits, is.kept)
 
 pub returns-clause-ok : goal.returns-clause-ok
 returns-clause-ok g c =
