@@ -1,13 +1,16 @@
 -- A principal gets a level: what its visit begins with, and what it used.
-use Rattle.std.proofs.Common.{◌≡◌, ℕ, zero, suc, ◌+◌, ◌-◌, ◌*◌, ◌<◌, Bool, true, false, cond, eqb, nat_lt, List, []}
-use Rattle.std.proofs.Common.{◌∷◌, length, slice_index, slice_set, sym, ap, ◌∙◌, inl, inr, arith}
+use Rattle.std.proofs.Common.{◌≡◌, ℕ, zero, suc, ◌+◌, ◌-◌, ◌*◌, ◌<◌, Bool, true, false, cond, eqb, nat_le, nat_lt}
+use Rattle.std.proofs.Common.{List, [], ◌∷◌, length, slice_index, slice_set, sym, ap, ◌∙◌, inl, inr, arith}
 use Rattle.std.proofs.lemmas.Bool.{cases_eq}
 use Rattle.std.proofs.lemmas.Bool.Decides.{nat_tests}
 use Rattle.std.proofs.lemmas.List.{get_or-set_same, get_or-set_other}
+use Rattle.kn_system.specs.declared.rows.Piece.TheVariants.{Who}
 use Rattle.kn_system.specs.Equations.{SystemEquations, row_at}
+use Rattle.kn_system.specs.Nodes.{pieces_of, uses_of}
 use Rattle.kn_system.specs.Settled.{unsettled}
 use Rattle.kn_settle.specs.Counters.{AreVisited, AreWaiting, AreWhole, IsUsed, IsVisit, rank, trues}
 use Rattle.kn_settle.proofs.GateClimbs.{within-further, within-more}
+use Rattle.kn_settle.proofs.VisitedUses.{rank-within}
 
 fewer-unsettled : (levels : List ℕ) (p v : ℕ) → p < length levels → slice_index levels p ≡ 0 → 0 < v
     → unsettled (slice_set levels p v) < unsettled levels
@@ -22,22 +25,24 @@ fewer-unsettled (suc level ∷ levels) (suc p) v l none some = let rest =
 
 -- before its visit none of its uses is marked
 pub visit-begins : (s : SystemEquations) (p v : ℕ) (levels : List ℕ) (marks : List Bool) → slice_index levels p ≡ 0
-    → AreWhole s levels marks → AreVisited s p 0 (slice_set levels p v) marks
+    → AreWhole s levels marks → AreVisited s p (length (uses_of p (pieces_of s.rows))) (slice_set levels p v) marks
 visit-begins s p v levels marks fresh whole = λ i q l e.
+    let uses : ℕ = length (uses_of p (pieces_of s.rows)) in
     whole i q l e ∙
     (elim (cases_eq q p) [
       | inl who ↦
           let own : eqb q p ≡ true = grind (arith, nat_tests) in
           let none : slice_index levels q ≡ 0 = ap (slice_index levels) who ∙ fresh in
           let first : nat_lt 0 (slice_index levels q) ≡ false = grind (arith, nat_tests) in
-          let then : nat_lt (rank s p i) 0 ≡ false = grind (arith, nat_tests) in
-          first ∙ sym (ap (λ b. cond b (nat_lt (rank s p i) 0) (nat_lt 0 (slice_index (slice_set levels p v) q))) own
+          let below : rank s p i < uses = rank-within s p i l (e ∙ ap (λ x. Who x) who) in
+          let then : nat_le uses (rank s p i) ≡ false = grind (arith, nat_tests) in
+          first ∙ sym (ap (λ b. cond b (nat_le uses (rank s p i)) (nat_lt 0 (slice_index (slice_set levels p v) q))) own
           ∙ then)
       | inr stranger ↦
           let no : eqb q p ≡ false = grind (arith, nat_tests) in
           let same : slice_index (slice_set levels p v) q ≡ slice_index levels q =
           get_or-set_other levels p q v 0 stranger in
-          sym (ap (λ b. cond b (nat_lt (rank s p i) 0) (nat_lt 0 (slice_index (slice_set levels p v) q))) no
+          sym (ap (λ b. cond b (nat_le uses (rank s p i)) (nat_lt 0 (slice_index (slice_set levels p v) q))) no
           ∙ ap (nat_lt 0) same)
     ])
 

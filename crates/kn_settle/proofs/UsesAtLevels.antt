@@ -1,6 +1,6 @@
 -- The uses of a principal, one after another, where the levels are these.
-use Rattle.std.proofs.Common.{◌≡◌, ℕ, ◌+◌, ◌-◌, ◌*◌, ◌<◌, ◌≤◌, ◌^◌, Bool, min, None, Some, List, slice_get, slice_index}
-use Rattle.std.proofs.Common.{arith}
+use Rattle.std.proofs.Common.{◌≡◌, ℕ, suc, ◌+◌, ◌-◌, ◌*◌, ◌<◌, ◌≤◌, ◌^◌, Bool, min, Some, List, length, slice_get}
+use Rattle.std.proofs.Common.{slice_index, arith}
 use Rattle.kn_system.specs.declared.rows.Piece.TheVariants.{Who}
 use Rattle.kn_system.specs.Equations.{SystemEquations, node_total}
 use Rattle.kn_system.specs.Nodes.{pieces_of, uses_of}
@@ -14,12 +14,13 @@ abbrev pub VisitsAt : SystemEquations → ℕ → ℕ → ℕ → List ℕ → L
     → Type 0
 VisitsAt s v p k levels counts buckets now_counts now_buckets old new =
     (marks : List Bool) → 0 < slice_index levels p → IsCounted s marks counts (node_total s.rows)
-    → AreVisited s p 0 levels marks → AreWaiting s v levels marks buckets
+    → AreVisited s p (length (uses_of p (pieces_of s.rows))) levels marks → AreWaiting s v levels marks buckets
     → (m : List Bool) × IsVisiting s v p k levels marks m now_counts now_buckets old new
 
-pub starts_at : (s : SystemEquations) (v p : ℕ) (levels counts : List ℕ) (buckets : List (List ℕ)) (now : ℕ)
-    → VisitsAt s v p 0 levels counts buckets counts buckets now now
-starts_at s v p levels counts buckets now = λ marks some counted visited waits. (
+pub starts_at : (s : SystemEquations) (v p : ℕ) (levels counts : List ℕ) (buckets : List (List ℕ)) (old new : ℕ)
+    → new ≡ min (old + 1) (2 ^ 64 - 1)
+    → VisitsAt s v p (length (uses_of p (pieces_of s.rows))) levels counts buckets counts buckets old new
+starts_at s v p levels counts buckets old new tick = λ marks some counted visited waits. (
   marks,
   record {
     counted = counted;
@@ -27,27 +28,20 @@ starts_at s v p levels counts buckets now = λ marks some counted visited waits.
     waits = waits;
     more = omega arith;
     ticks =
-        λ fits. (omega arith, omega arith);
+        λ fits. (omega (arith, tick), omega (arith, tick));
   },
 )
 
-pub ends_at : (s : SystemEquations) (v p k : ℕ) (levels counts now_counts : List ℕ)
-    (buckets now_buckets : List (List ℕ)) (old mid new : ℕ)
-    → VisitsAt s v p k levels counts buckets now_counts now_buckets old mid → new ≡ min (mid + 1) (2 ^ 64 - 1)
-    → slice_get (uses_of p (pieces_of s.rows)) k ≡ None → (marks : List Bool) → 0 < slice_index levels p
-    → IsCounted s marks counts (node_total s.rows) → AreVisited s p 0 levels marks
-    → AreWaiting s v levels marks buckets
+pub ends_at : (s : SystemEquations) (v p : ℕ) (levels counts now_counts : List ℕ) (buckets now_buckets : List (List ℕ))
+    (old new : ℕ) → VisitsAt s v p 0 levels counts buckets now_counts now_buckets old new
+    → (marks : List Bool) → 0 < slice_index levels p → IsCounted s marks counts (node_total s.rows)
+    → AreVisited s p (length (uses_of p (pieces_of s.rows))) levels marks → AreWaiting s v levels marks buckets
     → (after : List Bool) × IsVisit s marks after old new × IsCounting s v levels after now_counts now_buckets
-ends_at s v p k levels counts now_counts buckets now_buckets old mid new h tick none marks some counted visited waits =
+ends_at s v p levels counts now_counts buckets now_buckets old new h marks some counted visited waits =
     let (m, on) = h marks some counted visited waits in (
       m,
-      record {
-        more = on.more;
-        most = omega (arith, trues-le m, on.counted.marks_fit);
-        ticks = within-more (3 * (trues m - trues marks) + 1) (1 + 3 * (trues m - trues marks)) old new (omega arith)
-            (within-tick (3 * (trues m - trues marks)) old mid new on.ticks tick);
-      },
-      record { counted = on.counted; whole = visited-all s p k levels m some none on.visited; waits = on.waits },
+      record { more = on.more; most = omega (arith, trues-le m, on.counted.marks_fit); ticks = on.ticks },
+      record { counted = on.counted; whole = visited-all s p levels m some on.visited; waits = on.waits },
     )
 
 -- what a climb from the next use says
@@ -59,17 +53,18 @@ ClimbSaysAt s v node levels counts buckets next_counts next_buckets old new =
     → (after : List Bool) × IsClimbed s marks after node old new
     × (IsCounted s after next_counts (node_total s.rows) × AreWaiting s v levels after next_buckets)
 
-three_each : (a b c : ℕ) → a ≤ b → b < c → 3 * (b - a) + 1 + (1 + (c - b)) ≤ 3 * (c - a)
+three_each : (a b c : ℕ) → a ≤ b → b < c → 1 + 3 * (b - a) + (1 + (c - b)) + 1 ≤ 1 + 3 * (c - a)
 three_each a b c l h = omega (arith, l, h)
 
 pub goes_on_at : (s : SystemEquations) (v p k node : ℕ) (levels counts now_counts next_counts : List ℕ)
-    (buckets now_buckets next_buckets : List (List ℕ)) (old mid used new : ℕ)
+    (buckets now_buckets next_buckets : List (List ℕ)) (old mid climbed_at new : ℕ)
     → slice_get (uses_of p (pieces_of s.rows)) k ≡ Some node
-    → VisitsAt s v p k levels counts buckets now_counts now_buckets old mid → used ≡ min (mid + 1) (2 ^ 64 - 1)
-    → ClimbSaysAt s v node levels now_counts now_buckets next_counts next_buckets used new
-    → VisitsAt s v p (k + 1) levels counts buckets next_counts next_buckets old new
-goes_on_at s v p k node levels counts now_counts next_counts buckets now_buckets next_buckets old mid used new found h
-    tick climb = λ marks some counted visited waits.
+    → VisitsAt s v p (suc k) levels counts buckets now_counts now_buckets old mid
+    → ClimbSaysAt s v node levels now_counts now_buckets next_counts next_buckets mid climbed_at
+    → new ≡ min (climbed_at + 1) (2 ^ 64 - 1)
+    → VisitsAt s v p k levels counts buckets next_counts next_buckets old new
+goes_on_at s v p k node levels counts now_counts next_counts buckets now_buckets next_buckets old mid climbed_at new
+    found h climb tick = λ marks some counted visited waits.
     let (m, on) = h marks some counted visited waits in
     let use_k : IsUse s p k node = use_read s p k node found in
     let (after, climbed, (counted_after, waits_after)) =
@@ -77,14 +72,15 @@ goes_on_at s v p k node levels counts now_counts next_counts buckets now_buckets
       after,
       record {
         counted = counted_after;
-        visited = visited-next s p k node used new levels m after use_k found on.visited climbed;
+        visited = visited-next s p k node mid climbed_at levels m after use_k found on.visited climbed;
         waits = waits_after;
         more = omega (arith, on.more, climbed.more);
-        ticks = within-more (3 * (trues m - trues marks) + 1 + (1 + (trues after - trues m)))
-            (3 * (trues after - trues marks)) old new
+        ticks = within-more (1 + 3 * (trues m - trues marks) + (1 + (trues after - trues m)) + 1)
+            (1 + 3 * (trues after - trues marks)) old new
             (three_each (trues marks) (trues m) (trues after) on.more climbed.more)
-            (within-further (3 * (trues m - trues marks) + 1) (1 + (trues after - trues m)) old used new
-            (within-tick (3 * (trues m - trues marks)) old mid used on.ticks tick) climbed.ticks);
+            (within-tick (1 + 3 * (trues m - trues marks) + (1 + (trues after - trues m))) old climbed_at new
+            (within-further (1 + 3 * (trues m - trues marks)) (1 + (trues after - trues m)) old mid climbed_at on.ticks
+            climbed.ticks) tick);
       },
     )
 
@@ -95,15 +91,15 @@ ClimbBreaksAt s v node levels counts buckets old new =
     → AreWaiting s v levels marks buckets → (after : List Bool) × IsClimbed s marks after node old new × Unit {0}
 
 pub breaks_at : (s : SystemEquations) (v p k node : ℕ) (levels counts now_counts : List ℕ)
-    (buckets now_buckets : List (List ℕ)) (old mid used new : ℕ)
+    (buckets now_buckets : List (List ℕ)) (old mid new : ℕ)
     → slice_get (uses_of p (pieces_of s.rows)) k ≡ Some node
-    → VisitsAt s v p k levels counts buckets now_counts now_buckets old mid → used ≡ min (mid + 1) (2 ^ 64 - 1)
-    → ClimbBreaksAt s v node levels now_counts now_buckets used new
+    → VisitsAt s v p (suc k) levels counts buckets now_counts now_buckets old mid
+    → ClimbBreaksAt s v node levels now_counts now_buckets mid new
     → (marks : List Bool) → 0 < slice_index levels p → IsCounted s marks counts (node_total s.rows)
-    → AreVisited s p 0 levels marks → AreWaiting s v levels marks buckets → (after : List Bool)
-    × IsVisit s marks after old new × Unit {0}
-breaks_at s v p k node levels counts now_counts buckets now_buckets old mid used new found h tick climb marks some
-    counted visited waits =
+    → AreVisited s p (length (uses_of p (pieces_of s.rows))) levels marks → AreWaiting s v levels marks buckets
+    → (after : List Bool) × IsVisit s marks after old new × Unit {0}
+breaks_at s v p k node levels counts now_counts buckets now_buckets old mid new found h climb marks some counted visited
+    waits =
     let (m, on) = h marks some counted visited waits in
     let use_k : IsUse s p k node = use_read s p k node found in
     let (after, climbed, none) =
@@ -112,11 +108,11 @@ breaks_at s v p k node levels counts now_counts buckets now_buckets old mid used
       record {
         more = omega (arith, on.more, climbed.more);
         most = climbed.most;
-        ticks = within-more (3 * (trues m - trues marks) + 1 + (1 + (trues after - trues m)))
+        ticks = within-more (1 + 3 * (trues m - trues marks) + (1 + (trues after - trues m)))
             (1 + 3 * (trues after - trues marks)) old new
             (omega (arith, three_each (trues marks) (trues m) (trues after) on.more climbed.more))
-            (within-further (3 * (trues m - trues marks) + 1) (1 + (trues after - trues m)) old used new
-            (within-tick (3 * (trues m - trues marks)) old mid used on.ticks tick) climbed.ticks);
+            (within-further (1 + 3 * (trues m - trues marks)) (1 + (trues after - trues m)) old mid new on.ticks
+            climbed.ticks);
       },
       tt,
     )

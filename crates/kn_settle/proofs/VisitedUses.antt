@@ -1,15 +1,17 @@
 -- The uses of a principal, one after another: which are marked while it is visited.
-use Rattle.std.proofs.Common.{◌≡◌, ◌≢◌, ℕ, zero, suc, ◌+◌, ◌-◌, ◌*◌, ◌<◌, ◌≤◌, Bool, true, false, cond, eqb, nat_lt}
-use Rattle.std.proofs.Common.{Option, None, Some, List, [], ◌∷◌, length, take, get_or, slice_get, slice_index, refl}
+use Rattle.std.proofs.Common.{◌≡◌, ◌≢◌, ℕ, zero, suc, ◌+◌, ◌-◌, ◌*◌, ◌<◌, ◌≤◌, Bool, true, false, cond, eqb, nat_le}
+use Rattle.std.proofs.Common.{nat_lt, Option, None, Some, List, [], ◌∷◌, length, take, get_or, slice_get, slice_index}
+use Rattle.std.proofs.Common.{refl}
 use Rattle.std.proofs.Common.{sym, ap, ◌∙◌, subst, inl, inr, arith}
 use Rattle.std.proofs.lemmas.Bool.{cases_lt, cases_eq, false≢true}
 use Rattle.std.proofs.lemmas.Bool.Decides.{nat_tests}
 use Rattle.std.proofs.lemmas.List.{get_or_past}
+use Rattle.std.proofs.lemmas.Option.{slice_get-get_or, slice_get_within}
 use Rattle.kn_system.specs.declared.rows.Piece.{Piece}
 use Rattle.kn_system.specs.declared.rows.Piece.TheVariants.{Who, Gate}
 use Rattle.kn_system.specs.Counts.{IsWithin}
 use Rattle.kn_system.specs.Equations.{SystemEquations, node_total}
-use Rattle.kn_system.specs.Nodes.{pieces_of, uses_from, uses_of}
+use Rattle.kn_system.specs.Nodes.{pieces_of, use_before_at, uses_from, uses_of}
 use Rattle.kn_system.proofs.KeptRows.{length-pieces_of}
 use Rattle.kn_settle.specs.Counters.{AreVisited, AreWaiting, AreWhole, IsClimbed, IsCounted, IsPending, is_marked}
 use Rattle.kn_settle.specs.Counters.{piece_at, rank, trues}
@@ -105,24 +107,6 @@ use-place-from p i (Gate l n ∷ ps) k j h =
           (place-next p i (Gate l n) ps k j r.0 0 (λ m. omega arith) r.1),
     )
 
-pub length-uses : (p i : ℕ) (ps : List Piece) → length (uses_from p i ps) ≤ length ps
-length-uses p i [] = omega arith
-length-uses p i (Who q ∷ ps) =
-    let rest = length-uses p (suc i) ps in
-    elim (eqb q p) as (λ b. length (cond b (i ∷ uses_from p (suc i) ps) (uses_from p (suc i) ps)) ≤ suc (length ps))
-    [ true ↦ omega (arith, rest) | false ↦ omega (arith, rest) ]
-length-uses p i (Gate k n ∷ ps) = let rest = length-uses p (suc i) ps in omega (arith, rest)
-
-get-within : (xs : List ℕ) (k j : ℕ) → slice_get xs k ≡ Some j → k < length xs
-get-within [] k j e = absurd (cc)
-get-within (x ∷ xs) zero j e = omega arith
-get-within (x ∷ xs) (suc k) j e = let rest = get-within xs k j e in omega (arith, rest)
-
-get-past : (xs : List ℕ) (k : ℕ) → slice_get xs k ≡ None → length xs ≤ k
-get-past [] k e = omega arith
-get-past (x ∷ xs) zero e = absurd (cc)
-get-past (x ∷ xs) (suc k) e = let rest = get-past xs k e in omega (arith, rest)
-
 -- the k-th use of a principal
 pub record IsUse (s : SystemEquations) (p k j : ℕ) : Type 0 where
   pub inside : j < node_total s.rows
@@ -138,7 +122,7 @@ use_read s p k j e =
       inside = omega (arith, place.inside, same, length-pieces_of s.rows);
       leaf = ap (piece_at s) (sym same) ∙ place.who;
       ranked = ap (rank s p) (sym same) ∙ place.before;
-      most = get-within (uses_of p (pieces_of s.rows)) k j e;
+      most = slice_get_within (uses_of p (pieces_of s.rows)) k j e;
     }
 
 pub use_found : (s : SystemEquations) (p i : ℕ) → i < node_total s.rows → piece_at s i ≡ Who p
@@ -146,6 +130,42 @@ pub use_found : (s : SystemEquations) (p i : ℕ) → i < node_total s.rows → 
 use_found s p i l e =
     let z : 0 + i ≡ i = omega arith in
     use-found-from p 0 i (pieces_of s.rows) (omega (arith, l, length-pieces_of s.rows)) e ∙ ap (λ n. Some n) z
+
+pub rank-within : (s : SystemEquations) (p i : ℕ) → i < node_total s.rows → piece_at s i ≡ Who p
+    → rank s p i < length (uses_of p (pieces_of s.rows))
+rank-within s p i l e = slice_get_within (uses_of p (pieces_of s.rows)) (rank s p i) i (use_found s p i l e)
+
+-- how many uses of a principal are left, where the next is this
+abbrev pub uses_left : SystemEquations → ℕ → Option ℕ → ℕ
+uses_left s p None = 0
+uses_left s p (Some node) = suc (rank s p node)
+
+left-before : (s : SystemEquations) (p k : ℕ) → k ≤ length (uses_of p (pieces_of s.rows))
+    → uses_left s p (use_before_at (uses_of p (pieces_of s.rows)) k) ≡ k
+left-before s p zero l = refl
+left-before s p (suc k) l =
+    let uses : List ℕ = uses_of p (pieces_of s.rows) in
+    let found : slice_get uses k ≡ Some (slice_index uses k) = slice_get-get_or uses k 0 (omega (arith, l)) in
+    ap (uses_left s p) found ∙ ap suc (use_read s p k (slice_index uses k) found).ranked
+
+-- the next use is the last of those that are left
+abbrev pub IsNextUse : SystemEquations → ℕ → Option ℕ → Type 0
+IsNextUse s p next = next ≡ use_before_at (uses_of p (pieces_of s.rows)) (uses_left s p next)
+
+-- where the last of the first k uses is next, k are left
+pub next-left : (s : SystemEquations) (p k : ℕ) (next : Option ℕ) → k ≤ length (uses_of p (pieces_of s.rows))
+    → next ≡ use_before_at (uses_of p (pieces_of s.rows)) k → uses_left s p next ≡ k
+next-left s p k next l e = ap (uses_left s p) e ∙ left-before s p k l
+
+pub next-is : (s : SystemEquations) (p k : ℕ) (next : Option ℕ) → k ≤ length (uses_of p (pieces_of s.rows))
+    → next ≡ use_before_at (uses_of p (pieces_of s.rows)) k → IsNextUse s p next
+next-is s p k next l e = e ∙ ap (use_before_at (uses_of p (pieces_of s.rows))) (sym (next-left s p k next l e))
+
+-- a next use stands where its rank says
+pub next_read : (s : SystemEquations) (p node : ℕ) (next : Option ℕ) → IsNextUse s p next → next ≡ Some node
+    → slice_get (uses_of p (pieces_of s.rows)) (rank s p node) ≡ Some node
+next_read s p node next h e =
+    sym (ap (λ o. use_before_at (uses_of p (pieces_of s.rows)) (uses_left s p o)) e) ∙ sym h ∙ e
 
 -- two uses of one rank are one
 use_same : (s : SystemEquations) (p k i j : ℕ) → i < node_total s.rows → piece_at s i ≡ Who p → rank s p i ≡ k
@@ -169,7 +189,8 @@ gate_no_who s i k n q e f = false≢true (ap is_who (sym e ∙ f))
 
 -- the next use is yet to be marked
 pub visit-pending : (s : SystemEquations) (p k j : ℕ) (levels : List ℕ) (m : List Bool) (counts : List ℕ)
-    → IsUse s p k j → IsCounted s m counts (node_total s.rows) → AreVisited s p k levels m → IsPending s m counts j
+    → IsUse s p k j → IsCounted s m counts (node_total s.rows) → AreVisited s p (suc k) levels m
+    → IsPending s m counts j
 visit-pending s p k j levels m counts kth counted visited = record {
   counts_but = record {
     marks_fit = counted.marks_fit;
@@ -183,25 +204,25 @@ visit-pending s p k j levels m counts kth counted visited = record {
   inside = kth.inside;
   unmarked =
       let own : eqb p p ≡ true = grind (arith, nat_tests) in
-      let less : nat_lt (rank s p j) k ≡ false = (let r = kth.ranked in grind (arith, nat_tests)) in
-      visited j p kth.inside kth.leaf ∙ ap (λ b. cond b (nat_lt (rank s p j) k) (nat_lt 0 (slice_index levels p))) own
-      ∙ less;
+      let less : nat_le (suc k) (rank s p j) ≡ false = (let r = kth.ranked in grind (arith, nat_tests)) in
+      visited j p kth.inside kth.leaf
+      ∙ ap (λ b. cond b (nat_le (suc k) (rank s p j)) (nat_lt 0 (slice_index levels p))) own ∙ less;
   ready = λ l n e. absurd (gate_no_who s j l n p e kth.leaf);
 }
 
 -- and is marked then
 pub visited-next : (s : SystemEquations) (p k j old new : ℕ) (levels : List ℕ) (m after : List Bool) → IsUse s p k j
-    → slice_get (uses_of p (pieces_of s.rows)) k ≡ Some j → AreVisited s p k levels m → IsClimbed s m after j old new
-    → AreVisited s p (k + 1) levels after
+    → slice_get (uses_of p (pieces_of s.rows)) k ≡ Some j → AreVisited s p (suc k) levels m
+    → IsClimbed s m after j old new → AreVisited s p k levels after
 visited-next s p k j old new levels m after kth found visited climbed = λ i q l e.
     elim (cases_eq i j) [
       | inl same ↦
           let who : q ≡ p = who_same q p (sym e ∙ ap (piece_at s) same ∙ kth.leaf) in
           let own : eqb q p ≡ true = grind (arith, nat_tests) in
           let at_rank : rank s p i ≡ k = ap (rank s p) same ∙ kth.ranked in
-          let less : nat_lt (rank s p i) (k + 1) ≡ true = grind (arith, nat_tests) in
+          let reached : nat_le k (rank s p i) ≡ true = grind (arith, nat_tests) in
           ap (is_marked after) same ∙ climbed.own
-          ∙ sym (ap (λ b. cond b (nat_lt (rank s p i) (k + 1)) (nat_lt 0 (slice_index levels q))) own ∙ less)
+          ∙ sym (ap (λ b. cond b (nat_le k (rank s p i)) (nat_lt 0 (slice_index levels q))) own ∙ reached)
       | inr differs ↦
           climbed.leaves i q e differs ∙ visited i q l e ∙
           (elim (cases_eq q p) [
@@ -209,7 +230,7 @@ visited-next s p k j old new levels m after kth found visited climbed = λ i q l
                 let own : eqb q p ≡ true = grind (arith, nat_tests) in
                 let leaf : piece_at s i ≡ Who p = e ∙ ap (λ x. Who x) who in
                 let other : rank s p i ≢ k = (λ r. differs (use_same s p k i j l leaf r found)) in
-                let same_test : nat_lt (rank s p i) k ≡ nat_lt (rank s p i) (k + 1) =
+                let same_test : nat_le (suc k) (rank s p i) ≡ nat_le k (rank s p i) =
                 (elim (cases_lt (rank s p i) k) [
                   | inl a ↦ grind (arith, nat_tests)
                   | inr b ↦ let above : k
@@ -218,30 +239,26 @@ visited-next s p k j old new levels m after kth found visited climbed = λ i q l
                 ap (λ x. cond (eqb q p) x (nat_lt 0 (slice_index levels q))) same_test
             | inr stranger ↦
                 let no : eqb q p ≡ false = grind (arith, nat_tests) in
-                ap (λ b. cond b (nat_lt (rank s p i) k) (nat_lt 0 (slice_index levels q))) no
-                ∙ sym (ap (λ b. cond b (nat_lt (rank s p i) (k + 1)) (nat_lt 0 (slice_index levels q))) no)
+                ap (λ b. cond b (nat_le (suc k) (rank s p i)) (nat_lt 0 (slice_index levels q))) no
+                ∙ sym (ap (λ b. cond b (nat_le k (rank s p i)) (nat_lt 0 (slice_index levels q))) no)
           ])
     ]
 
--- once there is no further use all is marked
-pub visited-all : (s : SystemEquations) (p k : ℕ) (levels : List ℕ) (m : List Bool) → 0 < slice_index levels p
-    → slice_get (uses_of p (pieces_of s.rows)) k ≡ None → AreVisited s p k levels m → AreWhole s levels m
-visited-all s p k levels m some none visited = λ i q l e.
+-- once no use is left all is marked
+pub visited-all : (s : SystemEquations) (p : ℕ) (levels : List ℕ) (m : List Bool) → 0 < slice_index levels p
+    → AreVisited s p 0 levels m → AreWhole s levels m
+visited-all s p levels m some visited = λ i q l e.
     visited i q l e ∙
     (elim (cases_eq q p) [
       | inl who ↦
           let own : eqb q p ≡ true = grind (arith, nat_tests) in
-          let leaf : piece_at s i ≡ Who p = e ∙ ap (λ x. Who x) who in
-          let low : rank s p i < length (uses_of p (pieces_of s.rows)) =
-          get-within (uses_of p (pieces_of s.rows)) (rank s p i) i (use_found s p i l leaf) in
-          let past : length (uses_of p (pieces_of s.rows)) ≤ k = get-past (uses_of p (pieces_of s.rows)) k none in
-          let yes_first : nat_lt (rank s p i) k ≡ true = grind (arith, nat_tests) in
+          let yes_first : nat_le 0 (rank s p i) ≡ true = grind (arith, nat_tests) in
           let level : slice_index levels q ≡ slice_index levels p = ap (slice_index levels) who in
           let yes_then : nat_lt 0 (slice_index levels q) ≡ true = grind (arith, nat_tests) in
-          ap (λ b. cond b (nat_lt (rank s p i) k) (nat_lt 0 (slice_index levels q))) own ∙ yes_first ∙ sym yes_then
+          ap (λ b. cond b (nat_le 0 (rank s p i)) (nat_lt 0 (slice_index levels q))) own ∙ yes_first ∙ sym yes_then
       | inr stranger ↦
           let no : eqb q p ≡ false = grind (arith, nat_tests) in
-          ap (λ b. cond b (nat_lt (rank s p i) k) (nat_lt 0 (slice_index levels q))) no
+          ap (λ b. cond b (nat_le 0 (rank s p i)) (nat_lt 0 (slice_index levels q))) no
     ])
 
 -- whatever the marks were, so a visit of a principal is underway
@@ -251,7 +268,7 @@ pub record IsVisiting (s : SystemEquations) (v p k : ℕ) (levels : List ℕ) (m
   pub visited : AreVisited s p k levels m
   pub waits : AreWaiting s v levels m buckets
   pub more : trues marks ≤ trues m
-  pub ticks : IsWithin (3 * (trues m - trues marks)) old new
+  pub ticks : IsWithin (1 + 3 * (trues m - trues marks)) old new
 
 pub none_of : (r : Option ℕ) → ((x : ℕ) → r ≡ Some x → ⊥) → r ≡ None
 none_of None h = refl

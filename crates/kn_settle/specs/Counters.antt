@@ -75,11 +75,11 @@ AreWhole s levels marks = (i q : ℕ) → i < node_total s.rows → piece_at s i
 abbrev pub rank : SystemEquations → ℕ → ℕ → ℕ
 rank s p i = length (uses_of p (take i (pieces_of s.rows)))
 
--- so it is, but of the principal p the first k uses alone are marked
+-- so it is, but of the principal p the uses from the k-th on alone are marked
 abbrev pub AreVisited : SystemEquations → ℕ → ℕ → List ℕ → List Bool → Type 0
 AreVisited s p k levels marks =
     (i q : ℕ) → i < node_total s.rows → piece_at s i ≡ Who q
-    → is_marked marks i ≡ (if q == p then nat_lt (rank s p i) k else nat_lt 0 (slice_index levels q))
+    → is_marked marks i ≡ (if q == p then nat_le k (rank s p i) else nat_lt 0 (slice_index levels q))
 
 abbrev pub bucket_at : List (List ℕ) → ℕ → List ℕ
 bucket_at buckets w = slice_index_or buckets w []

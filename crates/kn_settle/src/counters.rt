@@ -9,6 +9,7 @@ ghost use Rattle.kn_system.specs.Counts.{IsWithin};
 ghost use Rattle.kn_system.specs.declared.nodes.NodeSort.TheVariants.{Gate};
 ghost use Rattle.kn_system.specs.declared.rows.Piece.TheVariants.{Who};
 ghost use Rattle.kn_system.specs.Equations.{IsSystem, node_total, row_at};
+ghost use Rattle.kn_system.specs.Nodes.{pieces_of, uses_of};
 
 use crate::ceilings::Ceilings;
 use crate::levels::Levels;
@@ -173,7 +174,8 @@ impl Counters {
         requires one_each { length levels.now.values.items ≡ length system.now.requesters }
         ensures visits { (marks : ListOf Bool) → 0 < slice_index levels.now.values.items principal
             → IsCounted system.now marks self.old.counts.items (node_total system.now.rows)
-            → AreVisited system.now principal 0 levels.now.values.items marks
+            → AreVisited system.now principal (length (uses_of principal (pieces_of system.now.rows)))
+            levels.now.values.items marks
             → AreWaiting system.now value levels.now.values.items marks self.old.buckets.items
             → (after : ListOf Bool) × IsVisit system.now marks after steps.old steps.new
             × OnOk result (IsCounting system.now value levels.now.values.items after self.new.counts.items
@@ -184,10 +186,10 @@ impl Counters {
         ensures trailed { AreTrailed self.old.counts.items self.old.trail
             → AreTrailed self.new.counts.items self.new.trail }
     {
-        let mut k = 0;
-        while let Some(node) = system.uses(principal, k, steps) {
+        let mut next = system.last_use(principal, steps);
+        while let Some(node) = next {
             match self.climb(system, node, value, levels, steps) {
-                Ok(()) => k += 1,
+                Ok(()) => next = system.use_before(node, steps),
                 Err(NoMemory) => return Err(NoMemory),
             }
         }

@@ -1,10 +1,10 @@
 //! A base with the requesters and the ceilings of one query.
 ghost use Rattle.std.specs.Prelude.{◌≡◌, ◌+◌, ◌-◌, ◌^◌, ◌<◌, ◌≤◌};
-ghost use Rattle.std.specs.Prelude.{All, IfOk, length, min, slice_get, slice_index, slice_index_or};
+ghost use Rattle.std.specs.Prelude.{All, IfOk, Some, length, min, slice_get, slice_index, slice_index_or, ℕ};
 ghost use Rattle.kn_base.specs.declared.limits.TheConstants.{FEWEST_COMPLIANCE_VALUES, MOST_COMPLIANCE_VALUES};
 ghost use Rattle.kn_settle.specs.QuerySystem.{query_system, IsOther};
 ghost use Rattle.kn_system.specs.Equations.{IsSystem, node_total, row_at};
-ghost use Rattle.kn_system.specs.Nodes.{pieces_of, sort_of, ups_of_rows, uses_of};
+ghost use Rattle.kn_system.specs.Nodes.{pieces_of, sort_of, ups_of_rows, use_before_at, uses_of};
 ghost use Rattle.kn_system.specs.declared.nodes.Up.TheVariants.{Row};
 ghost use Rattle.kn_system.specs.declared.rows.Piece.TheVariants.{Who};
 
@@ -85,13 +85,24 @@ impl<'a, L, C: Ceilings<L>> QuerySystem<'a, L, C> {
         self.ceilings.ceiling(row, steps)
     }
 
-    /// The node that is the principal's `k`-th use, counted from 0, or None where it has no more than `k`. One tick.
-    pub(crate) fn uses(&self, principal: u32, k: u32, steps: &mut Steps<L>) -> Option<u32>
+    /// The last node that is the principal, or None where none is. One tick.
+    pub(crate) fn last_use(&self, principal: u32, steps: &mut Steps<L>) -> Option<u32>
         requires { principal < length self.now.requesters }
-        ensures exact { result ≡ slice_get (uses_of principal (pieces_of self.now.rows)) k }
+        ensures exact { result ≡ use_before_at (uses_of principal (pieces_of self.now.rows))
+            (length (uses_of principal (pieces_of self.now.rows))) }
         ensures ticks { steps.new ≡ min (steps.old + 1) (2 ^ 64 - 1) }
     {
-        self.base.uses(principal, k, steps)
+        self.base.last_use(principal, steps)
+    }
+
+    /// The use of the same principal before this node, or None where it is the first one. One tick.
+    pub(crate) fn use_before(&self, node: u32, steps: &mut Steps<L>) -> Option<u32>
+        requires { node < node_total self.now.rows }
+        ensures exact { (principal k : ℕ) → slice_get (uses_of principal (pieces_of self.now.rows)) k ≡ Some node
+            → result ≡ use_before_at (uses_of principal (pieces_of self.now.rows)) k }
+        ensures ticks { steps.new ≡ min (steps.old + 1) (2 ^ 64 - 1) }
+    {
+        self.base.use_before(node, steps)
     }
 
     /// What a node is and what it is a part of. One tick.

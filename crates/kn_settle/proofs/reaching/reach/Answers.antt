@@ -1,5 +1,6 @@
 use Rattle.std.proofs.Common.{◌≡◌, ◌<◌, ℕ, List, length, slice_set, slice_index, sym, subst, arith}
 use Rattle.kn_system.specs.Equations.{SystemEquations}
+use Rattle.kn_system.specs.Nodes.{pieces_of, uses_of}
 use Rattle.kn_settle.specs.Counters.{AreVisited, AreWaiting, IsUsed}
 use Rattle.kn_settle.proofs.PrincipalLevels.{visit-begins, waits-level, visit-used, level-now}
 use Rattle.kn_settle.proofs.reaching.reach.Goals as goal
@@ -16,7 +17,7 @@ returns-in-Ok-visit-clause-reaches g c = λ start marks counting used.
     c.in-Ok-visit.ensures.visits marks
     (subst (λ (ls : List ℕ). 0 < slice_index ls p) (sym set) (level-now levels p v within c.requires.above_lowest))
     counting.counted
-    (subst (λ (ls : List ℕ). AreVisited s p 0 ls marks) (sym set)
+    (subst (λ (ls : List ℕ). AreVisited s p (length (uses_of p (pieces_of s.rows))) ls marks) (sym set)
     (visit-begins s p v levels marks c.requires.fresh counting.whole))
     (subst (λ (ls : List ℕ). AreWaiting s v ls marks c.args.counters.now.buckets.items) (sym set)
     (waits-level s p v v levels marks c.args.counters.now.buckets.items c.requires.fresh counting.waits)) in (
@@ -39,7 +40,7 @@ returns-in-Err-visit-clause-reaches g c = λ start marks counting used.
     c.in-Err-visit.ensures.visits marks
     (subst (λ (ls : List ℕ). 0 < slice_index ls p) (sym set) (level-now levels p v within c.requires.above_lowest))
     counting.counted
-    (subst (λ (ls : List ℕ). AreVisited s p 0 ls marks) (sym set)
+    (subst (λ (ls : List ℕ). AreVisited s p (length (uses_of p (pieces_of s.rows))) ls marks) (sym set)
     (visit-begins s p v levels marks c.requires.fresh counting.whole))
     (subst (λ (ls : List ℕ). AreWaiting s v ls marks c.args.counters.now.buckets.items) (sym set)
     (waits-level s p v v levels marks c.args.counters.now.buckets.items c.requires.fresh counting.waits)) in (
