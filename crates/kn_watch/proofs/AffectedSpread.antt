@@ -1,6 +1,6 @@
 -- Flagging the authorizers of the rows that use a principal, and counting the steps of it.
 use mathlib.Core.List.{IsPrefix}
-use Rattle.std.proofs.Common.{◌≡◌, ℕ, suc, zero, ◌+◌, ◌-◌, ◌*◌, ◌<◌, ◌≤◌, ◌^◌, Bool, true, cond, min, Some, None, List}
+use Rattle.std.proofs.Common.{◌≡◌, ℕ, suc, zero, ◌+◌, ◌-◌, ◌*◌, ◌<◌, ◌≤◌, ◌^◌, Bool, true, cond, min, Some, List}
 use Rattle.std.proofs.Common.{[], ◌∷◌, length, take, slice_get, slice_index, sym, ap, ◌∙◌, subst, inl, inr, arith}
 use Rattle.std.proofs.lemmas.Bool.{cases_lt}
 use Rattle.std.proofs.lemmas.List.{take-append-le}
@@ -62,19 +62,25 @@ own-affected s others p k i row a users is e same l own =
     subst (λ q. is_affected others q ≡ true) (sym (own ∙ ap (λ r. (row_at s.rows r).authorizer) same))
     (use-affected s others p k i users is e there)
 
--- the authorizers of the rows of the first uses are flagged
+-- the authorizers of the rows of the uses from the n-th on are flagged
 abbrev pub AreReached : SystemEquations → ℕ → ℕ → List Bool → Type 0
-AreReached s p n flags = (k i : ℕ) → k < n → slice_get (uses_of p (pieces_of s.rows)) k ≡ Some i
+AreReached s p n flags = (k i : ℕ) → n ≤ k → slice_get (uses_of p (pieces_of s.rows)) k ≡ Some i
     → is_affected flags (row_at s.rows (row_of_node s.rows i)).authorizer ≡ true
+
+-- of none at first
+pub reached-none : (s : SystemEquations) (p : ℕ) (flags : List Bool) → AreReached s p (use_count s p) flags
+reached-none s p flags = λ k i l e.
+    let before : k < use_count s p = slice_get_within (uses_of p (pieces_of s.rows)) k i e in
+    absurd (omega (arith, l, before))
 
 pub reached-next : (s : SystemEquations) (p n i : ℕ) (flags next : List Bool)
     → slice_get (uses_of p (pieces_of s.rows)) n ≡ Some i → IsSubset flags next
     → is_affected next (row_at s.rows (row_of_node s.rows i)).authorizer ≡ true
-    → AreReached s p n flags → AreReached s p (n + 1) next
+    → AreReached s p (suc n) flags → AreReached s p n next
 reached-next s p n i flags next e kept is h = λ k j l f.
-    elim (cases_lt k n) [
-      | inl before ↦ kept (row_at s.rows (row_of_node s.rows j)).authorizer (h k j before f)
-      | inr past ↦
+    elim (cases_lt n k) [
+      | inl behind ↦ kept (row_at s.rows (row_of_node s.rows j)).authorizer (h k j (omega (arith, behind)) f)
+      | inr before ↦
           let same : k ≡ n = omega arith in
           let one : Some i ≡ Some j = sym e ∙ ap (slice_get (uses_of p (pieces_of s.rows))) (sym same) ∙ f in
           let i_is : i ≡ j = (cc) in
@@ -82,51 +88,49 @@ reached-next s p n i flags next e kept is h = λ k j l f.
     ]
 
 -- all of them
-pub reached-all : (s : SystemEquations) (p n : ℕ) (flags : List Bool) → use_count s p ≤ n → AreReached s p n flags
-    → IsSpread s p flags
-reached-all s p n flags most h = λ r l usage.
+pub reached-all : (s : SystemEquations) (p : ℕ) (flags : List Bool) → AreReached s p 0 flags → IsSpread s p flags
+reached-all s p flags h = λ r l usage.
     let (k, i, e, row) = row-use s p r l usage in
-    let before : k < length (uses_of p (pieces_of s.rows)) = slice_get_within (uses_of p (pieces_of s.rows)) k i e in
     subst (λ q. is_affected flags (row_at s.rows q).authorizer ≡ true) row (h k i (omega arith) e)
-
-get-past : (xs : List ℕ) (k : ℕ) → slice_get xs k ≡ None → length xs ≤ k
-get-past [] k e = omega arith
-get-past (x ∷ xs) zero e = absurd (cc)
-get-past (x ∷ xs) (suc k) e = let rest = get-past xs k e in omega (arith, rest)
-
--- there is no further use
-pub uses-past : (s : SystemEquations) (p k : ℕ) → slice_get (uses_of p (pieces_of s.rows)) k ≡ None → use_count s p ≤ k
-uses-past s p k e = get-past (uses_of p (pieces_of s.rows)) k e
 
 mul_le : (a b n : ℕ) → a ≤ b → a * n ≤ b * n
 mul_le a b n l = grind arith
 
--- the steps of so many uses
+-- the steps of so many uses, and of reading the last one
 abbrev pub AreUseTicks : SystemEquations → List Bool → ℕ → ℕ → ℕ → Type 0
-AreUseTicks s others n old new = IsWithin (n * (affected_nodes others s.rows + 1)) old new
+AreUseTicks s others n old new = IsWithin (n * (affected_nodes others s.rows + 1) + 1) old new
 
-pub use-ticks : (s : SystemEquations) (others : List Bool) (k m old now read new : ℕ) → AreUseTicks s others k old now
-    → read ≡ min (now + 1) (2 ^ 64 - 1) → m ≤ affected_nodes others s.rows → IsWithin m read new
-    → AreUseTicks s others (k + 1) old new
-use-ticks s others k m old now read new h tick l w =
-    let n : ℕ = affected_nodes others s.rows in
-    within-more (k * (n + 1) + 1 + m) ((k + 1) * (n + 1)) old new (omega arith)
-    (within-further (k * (n + 1) + 1) m old read new (within-tick (k * (n + 1)) old now read h tick) w)
+pub first-ticks : (s : SystemEquations) (others : List Bool) (n old new : ℕ) → new ≡ min (old + 1) (2 ^ 64 - 1)
+    → AreUseTicks s others n old new
+first-ticks s others n old new tick = λ fits. (omega (arith, tick), omega (arith, tick))
 
+pub use-ticks : (s : SystemEquations) (others : List Bool) (k n m old now row new : ℕ) → n ≡ k + 1
+    → AreUseTicks s others k old now → m ≤ affected_nodes others s.rows → IsWithin m now row
+    → new ≡ min (row + 1) (2 ^ 64 - 1) → AreUseTicks s others n old new
+use-ticks s others k n m old now row new one h l w tick =
+    let a : ℕ = affected_nodes others s.rows in
+    subst (λ i. AreUseTicks s others i old new) (sym one)
+    (within-more (k * (a + 1) + 1 + m + 1) ((k + 1) * (a + 1) + 1) old new (omega arith)
+    (within-tick (k * (a + 1) + 1 + m) old row new (within-further (k * (a + 1) + 1) m old now row h w) tick))
+
+-- they are within the bound
 pub ticks-within : (s : SystemEquations) (others : List Bool) (p k old new : ℕ) → k ≤ use_count s p
     → AreUseTicks s others k old new → IsWithin (spread_ticks s others p) old new
 ticks-within s others p k old new l h =
-    let n : ℕ = affected_nodes others s.rows in
-    let m : k * (n + 1) ≤ use_count s p * (n + 1) = mul_le k (use_count s p) (n + 1) l in
-    within-more (k * (n + 1)) (spread_ticks s others p) old new (omega arith) h
+    let a : ℕ = affected_nodes others s.rows in
+    let m : k * (a + 1) ≤ use_count s p * (a + 1) = mul_le k (use_count s p) (a + 1) l in
+    within-more (k * (a + 1) + 1) (spread_ticks s others p) old new (omega arith) h
 
-pub ticks-end : (s : SystemEquations) (others : List Bool) (p k old now new : ℕ) → k ≤ use_count s p
-    → AreUseTicks s others k old now → new ≡ min (now + 1) (2 ^ 64 - 1) → IsWithin (spread_ticks s others p) old new
-ticks-end s others p k old now new l h tick =
-    let n : ℕ = affected_nodes others s.rows in
-    let m : k * (n + 1) ≤ use_count s p * (n + 1) = mul_le k (use_count s p) (n + 1) l in
-    within-more (k * (n + 1) + 1) (spread_ticks s others p) old new (omega arith)
-    (within-tick (k * (n + 1)) old now new h tick)
+-- and so are those for the way from one more use to its row
+pub ticks-break : (s : SystemEquations) (others : List Bool) (p k m old now new : ℕ) → k < use_count s p
+    → AreUseTicks s others k old now → m ≤ affected_nodes others s.rows → IsWithin m now new
+    → IsWithin (spread_ticks s others p) old new
+ticks-break s others p k m old now new less h l w =
+    let a : ℕ = affected_nodes others s.rows in
+    let most : (k + 1) * (a + 1) ≤ use_count s p * (a + 1) =
+    mul_le (k + 1) (use_count s p) (a + 1) (omega (arith, less)) in
+    within-more (k * (a + 1) + 1 + m) (spread_ticks s others p) old new (omega arith)
+    (within-further (k * (a + 1) + 1) m old now new h w)
 
 -- of those found, the first have all authorizers of rows that use them flagged
 abbrev pub AreSpread : SystemEquations → List ℕ → ℕ → List Bool → Type 0

@@ -104,11 +104,11 @@ impl Affected {
         ensures ticks { (others : ListOf Bool) → HasUsers system.now others → is_affected others principal ≡ true
             → IsWithin (spread_ticks system.now others principal) steps.old steps.new }
     {
-        let mut k = 0;
-        while let Some(node) = system.uses(principal, k, steps) {
+        let mut next = system.last_use(principal, steps);
+        while let Some(node) = next {
             let row = row_of(system, node, steps);
             match self.flag(system.authorizer(row)) {
-                Ok(()) => k += 1,
+                Ok(()) => next = system.use_before(node, steps),
                 Err(NoMemory) => return Err(NoMemory),
             }
         }
