@@ -20,18 +20,19 @@ use Rattle.kn_meaning.specs.Formulas.{Levels, level_step, formula_level}
 use Rattle.kn_meaning.specs.Occurring.{names_step, formula_names}
 use Rattle.kn_answer.specs.Numbering.{NamedPiece, Leaf, Gate, pieces_step, formula_pieces}
 
-fold-Who : (X : Type 0) (step : Formula-F X → X) (name : List ℕ) → fold-Formula X step (Who name) ≡ step (open_Who name)
+pub fold-Who : (X : Type 0) (step : Formula-F X → X) (name : List ℕ)
+    → fold-Formula X step (Who name) ≡ step (open_Who name)
 fold-Who X step name = ap (fold-Formula X step) (sym (rolls-Who name)) ∙ fold-roll-Formula X step (open_Who name)
 
-fold-All : (X : Type 0) (step : Formula-F X → X) (parts : List Formula)
+pub fold-All : (X : Type 0) (step : Formula-F X → X) (parts : List Formula)
     → fold-Formula X step (All parts) ≡ step (open_All (map (fold-Formula X step) parts))
 fold-All X step parts = ap (fold-Formula X step) (sym (rolls-All parts)) ∙ fold-roll-Formula X step (open_All parts)
 
-fold-Any : (X : Type 0) (step : Formula-F X → X) (parts : List Formula)
+pub fold-Any : (X : Type 0) (step : Formula-F X → X) (parts : List Formula)
     → fold-Formula X step (Any parts) ≡ step (open_Any (map (fold-Formula X step) parts))
 fold-Any X step parts = ap (fold-Formula X step) (sym (rolls-Any parts)) ∙ fold-roll-Formula X step (open_Any parts)
 
-fold-Threshold : (X : Type 0) (step : Formula-F X → X) (need : ℕ) (parts : List Formula)
+pub fold-Threshold : (X : Type 0) (step : Formula-F X → X) (need : ℕ) (parts : List Formula)
     → fold-Formula X step (Threshold need parts) ≡ step (open_Threshold need (map (fold-Formula X step) parts))
 fold-Threshold X step need parts = ap (fold-Formula X step) (sym (rolls-Threshold need parts))
     ∙ fold-roll-Formula X step (open_Threshold need parts)

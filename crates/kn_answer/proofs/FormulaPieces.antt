@@ -8,7 +8,7 @@ use Rattle.std.proofs.lemmas.Grind.{flat_map-append}
 use Rattle.kn_base.specs.Threshold.{threshold}
 use Rattle.kn_trees.specs.declared.formula.Formula.{Formula}
 use Rattle.kn_trees.specs.declared.formula.Formula.TheVariants.{Who}
-use Rattle.kn_trees.specs.Formulas.{total, formula_nodes, formula_depth, IsReadable}
+use Rattle.kn_trees.specs.Formulas.{total, formula_nodes, formula_depth}
 use Rattle.kn_trees.specs.Formulas as trees
 use Rattle.kn_meaning.specs.Formulas.{Levels, formula_level}
 use Rattle.kn_system.specs.declared.rows.Piece.{Piece}
@@ -192,13 +192,12 @@ AddsSpelled-gate names need parts formula old new need_one gate adds = record {
 }
 
 -- the one formula of pieces without others
-pub IsFormula-alone : (names : List (List ℕ)) (formula : Formula) (bytes : ℕ) (pieces : List Piece)
-    → IsReadable bytes formula → AreSpelled names (formula ∷ []) pieces → IsFormula (length names) pieces
-IsFormula-alone names formula bytes pieces readable are =
+pub IsFormula-alone : (names : List (List ℕ)) (formula : Formula) (pieces : List Piece) → formula_depth formula ≤ 200
+    → AreSpelled names (formula ∷ []) pieces → IsFormula (length names) pieces
+IsFormula-alone names formula pieces shallow are =
     let alone : pieces ++ [] ≡ pieces = append-nil pieces in
     let depths : form_depths pieces ≡ formula_depth formula ∷ [] = ap form_depths (sym alone) ∙ are.depths [] in
     let first : slice_index (form_depths pieces) 0 ≡ formula_depth formula = ap (λ ds. slice_index ds 0) depths in
-    let shallow : formula_depth formula ≤ 200 = readable.shallow in
     record {
       one = subst (AreForms (length names) 1) alone (are.forms (length names) 0 [] (omega arith) tt);
       shallow = omega arith;

@@ -1,6 +1,8 @@
 pub mod Texts
 pub mod FormulaPieces
+pub mod NarrowedPieces
 pub mod SizesAdded
+pub mod NodeSums
 pub mod FormulaFolds
 pub mod Pieces
 pub mod NamedLevels
@@ -17,3 +19,6 @@ pub mod Capped
 pub mod RowsOfAssertions
 pub mod AnswersOfBases
 pub mod LongerBases
+pub mod NarrowedFormulas
+pub mod NarrowedQueries
+pub mod NarrowedBases

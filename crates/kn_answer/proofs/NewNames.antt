@@ -162,7 +162,7 @@ AddsNames-none names = record {
     no same = cc
 
 -- the one name that another is among
-among_one : (other name : List ℕ) → list_any (bytes_eq other) (name ∷ []) ≡ true → other ≡ name
+pub among_one : (other name : List ℕ) → list_any (bytes_eq other) (name ∷ []) ≡ true → other ≡ name
 among_one other name among = by (bytes_eq other name) refl among
   where
     by : (b : Bool) → bytes_eq other name ≡ b → (b || false) ≡ true → other ≡ name

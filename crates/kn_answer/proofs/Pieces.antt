@@ -1,6 +1,6 @@
 -- How many pieces formulas are, and how many of these are principals.
-use Rattle.std.proofs.Common.{◌≡◌, ◌∙◌, ◌+◌, ℕ, suc, List, [], ◌∷◌, ◌++◌, length, map, flat_map, Option, Some, None}
-use Rattle.std.proofs.Common.{refl, sym, ap, subst, arith}
+use Rattle.std.proofs.Common.{◌≡◌, ◌∙◌, ◌+◌, ◌≤◌, ℕ, zero, suc, List, [], ◌∷◌, ◌++◌, length, map, flat_map, take}
+use Rattle.std.proofs.Common.{Option, Some, None, refl, sym, ap, subst, arith}
 use Rattle.std.proofs.lemmas.List.{length-append}
 use Rattle.std.proofs.lemmas.List.Sums.{sum_by-cons}
 use Rattle.kn_trees.specs.declared.formula.Formula.{Formula}
@@ -144,3 +144,16 @@ rows-nodes asked names (part ∷ parts) (row ∷ rows) are =
 -- a base has the nodes of its assertions
 pub bases-nodes : BasesHaveNodes
 bases-nodes parts names base is asked = rows-nodes asked names parts base.rows is.rows
+
+-- the first of them have no more
+pub nodes-front : (asked : Asked) (parts : List Part) (n : ℕ)
+    → equation_nodes (equations_over asked (take n parts)) ≤ equation_nodes (equations_over asked parts)
+nodes-front asked parts zero = omega arith
+nodes-front asked [] (suc n) = omega arith
+nodes-front asked (part ∷ parts) (suc n) =
+    let few = sum_by-cons (λ (s : Statement). licensees_nodes s.licensees) (statement_of asked part)
+    (map (statement_of asked) (take n parts)) in
+    let all = sum_by-cons (λ (s : Statement). licensees_nodes s.licensees) (statement_of asked part)
+    (map (statement_of asked) parts) in
+    let rest = nodes-front asked parts n in
+    omega (arith, few, all, rest)

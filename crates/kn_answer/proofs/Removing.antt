@@ -63,7 +63,8 @@ level-live top requesters ks v h = record {
   here = h.here;
 }
 
-any-there : {X : Type 0} (P : X → Type 0) (y : X) (l : List X) → Any P l → Any P (y ∷ l)
+-- what stands behind another stands there
+pub any-there : {X : Type 0} (P : X → Type 0) (y : X) (l : List X) → Any P l → Any P (y ∷ l)
 any-there P y l a = (suc a.0, a.1, omega (arith, a.2), a.3, a.4)
 
 -- who supports a row above the lowest is still there

@@ -1,6 +1,6 @@
 -- How much assertions add.
-use Rattle.std.proofs.Common.{◌≡◌, ℕ, zero, suc, ◌+◌, ◌<◌, List, [], ◌∷◌, ◌++◌, get_or, take, drop, length, map, sym}
-use Rattle.std.proofs.Common.{ap, ◌∙◌, arith, add-one, drop-cons}
+use Rattle.std.proofs.Common.{◌≡◌, ℕ, zero, suc, ◌+◌, ◌<◌, ◌≤◌, List, [], ◌∷◌, ◌++◌, get_or, take, drop, length, map}
+use Rattle.std.proofs.Common.{sym, ap, ◌∙◌, arith, add-one, drop-cons}
 use Rattle.std.proofs.lemmas.List.{map-append, take_more}
 use Rattle.kn_env.specs.Environment.{Asked}
 use Rattle.kn_meaning.specs.Equations.{Part, statement_of}
@@ -38,3 +38,8 @@ pub total_size-longer : (parts : List Part) (a : Part) → total_size (parts ++ 
 total_size-longer [] a = omega arith
 total_size-longer (b ∷ parts) a = let rest : total_size (parts ++ a ∷ []) ≡ total_size parts + size_of a =
     total_size-longer parts a in omega arith
+
+-- each adds two at least
+pub length-total_size : (parts : List Part) → length parts + length parts ≤ total_size parts
+length-total_size [] = omega arith
+length-total_size (part ∷ parts) = let rest = length-total_size parts in omega (arith, rest)

@@ -10,6 +10,7 @@ use Rattle.kn_system.specs.Rows.{SystemRow}
 use Rattle.kn_answer.specs.declared.numbered.Numbered.{Numbered}
 use Rattle.kn_answer.specs.Numbering.{IsNumber, AreDistinct, AreNumbered, HaveNumbers, IsSystemOf}
 use Rattle.kn_answer.specs.Based.{IsBaseRow}
+use Rattle.kn_answer.specs.Narrowed.{narrowed_assertion}
 
 -- the names keep their numbers
 abbrev pub Keeps : List (List ℕ) → List (List ℕ) → Type 0
@@ -65,3 +66,12 @@ pub record AddsRow (assertion : Assertion) (ceiling : ℕ) (old new : Numbered) 
   pub is : IsBaseRow new.names assertion row
   pub same : (e : Equations) → IsSystemOf e old.names old.system
       → IsSystemOf e new.names (record new.system { rows = old.system.rows })
+
+-- A row was added behind the others, which is the assertion's narrowed to the names, and no name was.
+pub record AddsNarrowedRow (assertion : Assertion) (ceiling : ℕ) (old new : Numbered) : Type 0 where
+  pub row : SystemRow
+  pub names : new.names ≡ old.names
+  pub system : new.system ≡ record old.system { rows = old.system.rows ++ row ∷ [] }
+  pub short : length row.formula ≤ 1 + field_nodes assertion.licensees
+  pub capped : row.ceiling ≡ ceiling
+  pub is : IsBaseRow old.names (narrowed_assertion old.names assertion) row

@@ -6,4 +6,5 @@ pub mod Built
 pub mod Located
 pub mod Removed
 pub mod Based
+pub mod Narrowed
 pub mod Laws

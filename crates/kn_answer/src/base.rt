@@ -1,6 +1,8 @@
 //! A base: assertions as a system over numbered principals, which is of no query and answers each.
 ghost use Rattle.std.specs.Prelude.{◌≡◌, ℕ, ◌+◌, ◌-◌, ◌*◌, ◌^◌, ◌<◌, ◌≤◌, false, true, [], ◌∷◌, ◌++◌, List as ListOf};
-ghost use Rattle.std.specs.Prelude.{All, length, map, replicate, slice_set, take, IfOk, OnOk};
+ghost use Rattle.std.specs.Prelude.{All, length, map, replicate, slice_set, take, None, IfOk, IfSome, OnOk};
+ghost use Rattle.kn_env.specs.Environment.{Asked};
+ghost use Rattle.kn_meaning.specs.Critical.{equation_nodes};
 ghost use Rattle.kn_meaning.specs.Equations.{IsPolicyLevel, Part as AssertionById, equations_over};
 ghost use Rattle.kn_meaning.specs.Proofs.{IsProof};
 ghost use Rattle.kn_system.specs.Equations.{IsRowOver, SystemEquations, node_total};
@@ -13,6 +15,7 @@ ghost use Rattle.kn_base.specs.declared.limits.TheConstants.{REQUESTERS};
 
 use crate::assertions::Assertions;
 use crate::conditions::{ConditionValues, Conditions, Evaluated};
+use crate::ids::{Ids, IdsOf};
 use crate::numbered::Numbered;
 use crate::types::{Answer, Part, Tally};
 use crate::with_others::WithOthers;
@@ -30,10 +33,10 @@ use std::marker::Model;
 /// and what conditions are worth, come with each query.
 #[derive(Drop)]
 pub struct Base {
-    numbered: Numbered,
+    pub(crate) numbered: Numbered,
     // For each row whether its assertion is still there.
-    live: List<bool>,
-    scratch: Scratch,
+    pub(crate) live: List<bool>,
+    pub(crate) scratch: Scratch,
 }
 
 impl Model for Base {
@@ -64,25 +67,43 @@ impl Base {
         })
     }
 
-    /// The base of these assertions, in their order. They are those of texts that have at most 16,777,000 bytes
-    /// together.
+    /// The base of these assertions, in their order, or None where their formulas have more nodes together than
+    /// `most_nodes`. They are those of texts that have at most 16,777,000 bytes together.
     ///
     /// `NoMemory` comes only when memory runs out.
-    pub fn of(alloc: Global, list: &List<Part<'_>>) -> Result<Base, NoMemory>
+    pub fn of(
+        alloc: Global,
+        list: &List<Part<'_>>,
+        most_nodes: u32,
+    ) -> Result<Option<Base>, NoMemory>
         requires { HaveTexts list.now }
-        ensures base { IfOk result (λ base. IsBaseOf list.now base.names base.system) }
-        ensures few_names { IfOk result (λ base. length base.names ≤ 1 + total_size list.now) }
-        ensures few_nodes { IfOk result (λ base. node_total base.system.rows ≤ total_size list.now) }
-        ensures live { IfOk result (λ base. live_parts list.now base.live ≡ list.now) }
-        ensures all { IfOk result (λ base. base.live ≡ replicate (length list.now) true) }
-        ensures names { IfOk result (λ base. length base.names + REQUESTERS ≤ 2 ^ 24) }
-        ensures room { IfOk result (λ base. (requesters : ListOf (ListOf ℕ)) → length requesters ≤ REQUESTERS
-            → length (with_names base.names requesters) ≤ 2 ^ 24) }
+        ensures base { IfOk result (λ found. IfSome found (λ base. IsBaseOf list.now base.names base.system)) }
+        ensures few_names { IfOk result (λ found. IfSome found (λ base.
+            length base.names ≤ 1 + total_size list.now)) }
+        ensures few_nodes { IfOk result (λ found. IfSome found (λ base.
+            node_total base.system.rows ≤ total_size list.now)) }
+        ensures live { IfOk result (λ found. IfSome found (λ base. live_parts list.now base.live ≡ list.now)) }
+        ensures all { IfOk result (λ found. IfSome found (λ base.
+            base.live ≡ replicate (length list.now) true)) }
+        ensures names { IfOk result (λ found. IfSome found (λ base. length base.names + REQUESTERS ≤ 2 ^ 24)) }
+        ensures room { IfOk result (λ found. IfSome found (λ base.
+            (requesters : ListOf (ListOf ℕ)) → length requesters ≤ REQUESTERS
+            → length (with_names base.names requesters) ≤ 2 ^ 24)) }
+        ensures small { IfOk result (λ found. IfSome found (λ base. node_total base.system.rows ≤ most_nodes)) }
+        ensures none { IfOk result (λ found. found ≡ None → (asked : Asked)
+            → most_nodes < equation_nodes (equations_over asked list.now)) }
     {
         kn_assert::laws::readings_are_computed();
         kn_assert::laws::readings_are_sound();
-        let base = Base::new(alloc)?;
-        base.extend_all(alloc, list)
+        let mut base = Base::new(alloc)?;
+        for part in list.as_slice() {
+            let longer = base.extend(alloc, part)?;
+            if longer.nodes() > most_nodes {
+                return Ok(None);
+            }
+            base = longer;
+        }
+        Ok(Some(base))
     }
 
     /// The base with these assertions, behind the others and in their order.
@@ -234,6 +255,33 @@ impl Base {
         ensures rows { self.new.system.rows ≡ self.old.system.rows }
         ensures live { self.new.live ≡ self.old.live }
     {
+        self.answer_of(alloc, query, &IdsOf { assertions }, values)
+    }
+
+    /// The answer to a query as of `answer_by`, which needs no more of the assertions than their ids.
+    pub(crate) fn answer_of<I: Ids, V: ConditionValues>(
+        &mut self,
+        alloc: Global,
+        query: &Query<'_>,
+        ids: &I,
+        values: &V,
+    ) -> Result<Answer, NoMemory>
+        requires base { IsBaseOf (I.parts ids.now) self.old.names self.old.system }
+        requires room { length (with_names self.old.names query.now.requesters) ≤ 2 ^ 24 }
+        requires each { V.each values.now ≡ condition_values query.now (I.parts ids.now) }
+        ensures proof { IfOk result (λ a.
+            IsProof (equations_over query.now (live_parts (I.parts ids.now) self.old.live)) a.rows a.value) }
+        ensures least { IfOk result (λ a.
+            IsPolicyLevel (equations_over query.now (live_parts (I.parts ids.now) self.old.live)) a.value) }
+        ensures below { IfOk result (λ a. a.value < length query.now.values) }
+        ensures base { IsBaseOf (I.parts ids.now) self.new.names self.new.system }
+        ensures entered { OnOk result (self.new.names ≡ with_names self.old.names query.now.requesters) }
+        ensures again { with_names self.new.names query.now.requesters
+            ≡ with_names self.old.names query.now.requesters }
+        ensures names { length self.new.names ≤ length self.old.names + length query.now.requesters }
+        ensures rows { self.new.system.rows ≡ self.old.system.rows }
+        ensures live { self.new.live ≡ self.old.live }
+    {
         let requesters = self.numbered.numbers(alloc, query.requesters())?;
         let system = &self.numbered.system;
         // The contract of `levels` says that the system is well formed.
@@ -257,7 +305,7 @@ impl Base {
         laws::least_levels_are_least();
         Ok(Answer {
             value: settled.value,
-            rows: self.named_rows(alloc, assertions, &settled.proof)?,
+            rows: self.named_rows(alloc, ids, &settled.proof)?,
         })
     }
 
@@ -314,23 +362,23 @@ impl Base {
     }
 
     // The rows of a proof by names, in their order.
-    fn named_rows<A: Assertions>(
+    fn named_rows<I: Ids>(
         &self,
         alloc: Global,
-        assertions: &A,
+        ids: &I,
         proof: &Proof,
     ) -> Result<List<NamedRow>, NoMemory>
         requires numbers { AreOfSystem self.now.system proof.now.rows }
-        requires one_each { length (A.parts assertions.now) ≡ length self.now.system.rows }
+        requires one_each { length (I.parts ids.now) ≡ length self.now.system.rows }
         ensures { IfOk result (λ rows. (s : SystemEquations) → AreLocated (record {
           names = self.now.names;
           system = s;
-          ids = map (λ part. part.id) (A.parts assertions.now);
+          ids = map (λ part. part.id) (I.parts ids.now);
         }) rows proof.now.rows) }
     {
         let mut rows = List::new(alloc);
         for row in proof.rows.as_slice() {
-            let named = self.named(alloc, assertions, row)?;
+            let named = self.named(alloc, ids, row)?;
             match rows.push(named) {
                 Ok(()) => {}
                 Err(_) => return Err(NoMemory),
@@ -340,23 +388,18 @@ impl Base {
     }
 
     // A row by its names.
-    fn named<A: Assertions>(
-        &self,
-        alloc: Global,
-        assertions: &A,
-        row: &Row,
-    ) -> Result<NamedRow, NoMemory>
+    fn named<I: Ids>(&self, alloc: Global, ids: &I, row: &Row) -> Result<NamedRow, NoMemory>
         requires numbers { IsOfSystem self.now.system row.now }
-        requires one_each { length (A.parts assertions.now) ≡ length self.now.system.rows }
+        requires one_each { length (I.parts ids.now) ≡ length self.now.system.rows }
         ensures { IfOk result (λ named. (s : SystemEquations) → IsLocated (record {
           names = self.now.names;
           system = s;
-          ids = map (λ part. part.id) (A.parts assertions.now);
+          ids = map (λ part. part.id) (I.parts ids.now);
         }) named row.now) }
     {
         Ok(NamedRow {
             value: row.value,
-            id: assertions.id(row.by),
+            id: ids.id(row.by),
             principal: Octets::from_slice(alloc, self.numbered.names.get(row.principal))?,
         })
     }

@@ -3,12 +3,12 @@ ghost use Rattle.std.specs.Prelude.{◌≡◌, ◌+◌, ◌^◌, ◌<◌, ◌≤
 ghost use Rattle.kn_meaning.specs.Equations.{equations_over};
 ghost use Rattle.kn_answer.specs.Numbering.{IsNumber};
 ghost use Rattle.kn_answer.specs.Built.{IsBuilt};
-ghost use Rattle.kn_answer.specs.Located.{IsFound, IsOfSystem, IsLocated, AreLocated};
+ghost use Rattle.kn_answer.specs.Located.{IsFound, IsLocated, AreLocated};
 ghost use Rattle.kn_answer.specs.Sizes.{HaveTexts};
 
 use crate::numbered::{Numbered, numbered_query};
 use crate::types::{Part, Tally};
-use kn_base::{List, NoMemory, Octets};
+use kn_base::{List, NoMemory};
 use kn_env::Query;
 use kn_names::Names;
 use kn_proof::{Id, NamedRow, Proof, ReadReply, Row};
@@ -124,18 +124,6 @@ impl Built {
             }
         }
         u32::MAX
-    }
-
-    // A row by its names.
-    pub(crate) fn named(&self, alloc: Global, row: &Row) -> Result<NamedRow, NoMemory>
-        requires in_range { IsOfSystem self.now.system row.now }
-        ensures { IfOk result (λ named. IsLocated self.now named row.now) }
-    {
-        Ok(NamedRow {
-            value: row.value,
-            id: self.id(row.by),
-            principal: Octets::from_slice(alloc, self.name(row.principal))?,
-        })
     }
 }
 

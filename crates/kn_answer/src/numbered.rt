@@ -111,7 +111,7 @@ impl Numbered {
     }
 
     // The number of a principal, which gets one here where it has none yet.
-    fn number(&mut self, name: &[u8]) -> Result<u32, NoMemory>
+    pub(super) fn number(&mut self, name: &[u8]) -> Result<u32, NoMemory>
         requires few { length (with_name self.old.names name.now) ≤ 2 ^ 24 }
         requires one_each { length self.old.names ≡ length self.old.system.requesters }
         ensures number { IfOk result (λ number. IsNumber self.new.names name.now number) }
@@ -326,7 +326,7 @@ pub(super) fn ceiling_of(
     field_value(alloc, &assertion.conditions, &env)
 }
 
-fn add_piece(pieces: &mut List<Piece>, piece: Piece) -> Result<(), NoMemory>
+pub(super) fn add_piece(pieces: &mut List<Piece>, piece: Piece) -> Result<(), NoMemory>
     ensures { OnOk result (pieces.new ≡ pieces.old ++ piece ∷ []) }
 {
     match pieces.push(piece) {

@@ -12,7 +12,7 @@ loop-row-preserved g c = λ s.
       names = c.args.self.now.names;
       system = s;
       ids =
-          map (λ part. part.id) (g.A.Assertions.parts c.args.assertions.now);
+          map (λ part. part.id) (g.I.Ids.parts c.args.ids.now);
     } in
     let items : c.as_slice-row-items.result.now ≡ c.args.proof.now.rows = c.as_slice-row-items.ensures in
     let within : c.loop-row.row-index < length c.args.proof.now.rows = omega (arith, ap length items) in

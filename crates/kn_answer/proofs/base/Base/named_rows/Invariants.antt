@@ -9,5 +9,5 @@ invariant-loop-row g l = (s : SystemEquations)
       names = l.self.names;
       system = s;
       ids =
-          map (λ part. part.id) (g.A.Assertions.parts l.assertions);
+          map (λ part. part.id) (g.I.Ids.parts l.ids);
     }) l.rows (take l.row-index l.proof.rows)

@@ -1,46 +1,120 @@
-use Rattle.std.proofs.Common.{◌+◌, ◌^◌, ◌<◌, ◌≤◌, [], ◌++◌, length, replicate, true, refl, ap, ◌∙◌, arith}
-use Rattle.std.proofs.lemmas.Result.{IfOk-weaker}
+use Rattle.std.proofs.Common.{◌≡◌, ℕ, ◌+◌, ◌^◌, ◌<◌, ◌≤◌, List, [], ◌∷◌, ◌++◌, length, get_or, replicate, take, true}
+use Rattle.std.proofs.Common.{refl, sym, ap, ◌∙◌, subst, arith}
+use Rattle.std.proofs.lemmas.List.{replicate_more, take_all, take_more}
+use Rattle.kn_meaning.specs.Equations.{Part}
+use Rattle.kn_answer.specs.Based.{IsBaseOf}
 use Rattle.kn_answer.specs.Numbering.{with_names}
 use Rattle.kn_answer.specs.Removed.{live_parts}
-use Rattle.kn_answer.specs.Sizes.{total_size}
+use Rattle.kn_answer.specs.Sizes.{IsReadablePart, size_of, total_size}
 use Rattle.kn_answer.proofs.Capped.{live-all}
 use Rattle.kn_answer.proofs.NamesAdded.{length-with_names}
+use Rattle.kn_answer.proofs.Pieces.{bases-nodes, nodes-front}
+use Rattle.kn_answer.proofs.SizesAdded.{total_size-drop, total_size-longer, total_size-split}
 use Rattle.kn_answer.proofs.Texts.{texts_readable, texts_small}
 use Rattle.kn_answer.proofs.base.Base.of.Goals as goal
 
-pub extend_all-requires : goal.extend_all-requires
-extend_all-requires c =
-    let small : 65 + total_size c.args.list.now < 2 ^ 24 =
-    texts_small c.readings_are_computed.ensures.reading c.readings_are_sound.ensures c.args.list.now c.requires in
+pub extend-requires-clause-readable : goal.extend-requires-clause-readable
+extend-requires-clause-readable c =
+    let i : ℕ = c.loop-part.part-index in
+    let list : List Part = c.args.list.now in
+    let part : Part = c.part-item.result in
+    let items : c.as_slice-part-items.result.now ≡ list = c.as_slice-part-items.ensures in
+    let within : i < length list = omega (arith, ap length items) in
+    subst IsReadablePart (sym (c.part-item.is ∙ ap (λ xs. get_or xs i part) items))
+    (texts_readable c.readings_are_computed.ensures.reading c.readings_are_sound.ensures c.requires.texts list
+    c.requires.read i part within)
+
+pub extend-requires-clause-names_fit : goal.extend-requires-clause-names_fit
+extend-requires-clause-names_fit c =
+    let i : ℕ = c.loop-part.part-index in
+    let list : List Part = c.args.list.now in
+    let part : Part = c.part-item.result in
+    let small : 65 + total_size list < 2 ^ 24 =
+    texts_small c.readings_are_computed.ensures.reading c.readings_are_sound.ensures list c.requires in
+    let items : c.as_slice-part-items.result.now ≡ list = c.as_slice-part-items.ensures in
+    let within : i < length list = omega (arith, ap length items) in
+    let rest = total_size-drop list i part within (c.part-item.is ∙ ap (λ xs. get_or xs i part) items) in
+    omega (arith, rest, small, total_size-split list i, c.loop-part.invariant.names)
+
+pub extend-requires-clause-nodes_fit : goal.extend-requires-clause-nodes_fit
+extend-requires-clause-nodes_fit c =
+    let i : ℕ = c.loop-part.part-index in
+    let list : List Part = c.args.list.now in
+    let part : Part = c.part-item.result in
+    let small : 65 + total_size list < 2 ^ 24 =
+    texts_small c.readings_are_computed.ensures.reading c.readings_are_sound.ensures list c.requires in
+    let items : c.as_slice-part-items.result.now ≡ list = c.as_slice-part-items.ensures in
+    let within : i < length list = omega (arith, ap length items) in
+    let rest = total_size-drop list i part within (c.part-item.is ∙ ap (λ xs. get_or xs i part) items) in
+    omega (arith, rest, small, total_size-split list i, c.loop-part.invariant.nodes)
+
+-- the formulas so far have too many nodes, so all have
+pub returns-then-nodes-most_nodes-clause-none : goal.returns-then-nodes-most_nodes-clause-none
+returns-then-nodes-most_nodes-clause-none c = λ none asked.
+    let i : ℕ = c.loop-part.part-index in
+    let list : List Part = c.args.list.now in
+    let part : Part = c.part-item.result in
+    let items : c.as_slice-part-items.result.now ≡ list = c.as_slice-part-items.ensures in
+    let within : i < length list = omega (arith, ap length items) in
+    let here : part ≡ get_or list i part = c.part-item.is ∙ ap (λ xs. get_or xs i part) items in
+    let longer : take i list ++ part ∷ [] ≡ take (i + 1) list = ap (λ x. take i list ++ x ∷ []) here
+    ∙ sym (take_more list i part within) in
+    let of : IsBaseOf (take (i + 1) list) c.in_ok-longer.longer.names c.in_ok-longer.longer.system =
+    subst (λ (ps : List Part). IsBaseOf ps c.in_ok-longer.longer.names c.in_ok-longer.longer.system) longer
+    (c.in_ok-longer.ensures.base (take i list) c.loop-part.invariant.base) in
+    omega (
+      arith,
+      bases-nodes (take (i + 1) list) c.in_ok-longer.longer.names c.in_ok-longer.longer.system of asked,
+      nodes-front asked list (i + 1),
+      c.nodes.ensures,
+      c.if-nodes-most_nodes.true,
+    )
+
+pub loop-part-preserved : goal.loop-part-preserved
+loop-part-preserved c =
+    let i : ℕ = c.loop-part.part-index in
+    let list : List Part = c.args.list.now in
+    let part : Part = c.part-item.result in
+    let items : c.as_slice-part-items.result.now ≡ list = c.as_slice-part-items.ensures in
+    let within : i < length list = omega (arith, ap length items) in
+    let here : part ≡ get_or list i part = c.part-item.is ∙ ap (λ xs. get_or xs i part) items in
+    let longer : take i list ++ part ∷ [] ≡ take (i + 1) list = ap (λ x. take i list ++ x ∷ []) here
+    ∙ sym (take_more list i part within) in
+    let size : total_size (take (i + 1) list) ≡ total_size (take i list) + size_of part = ap total_size (sym longer)
+    ∙ total_size-longer (take i list) part in
     record {
-      readable = texts_readable c.readings_are_computed.ensures.reading c.readings_are_sound.ensures c.requires.texts
-          c.args.list.now c.requires.read;
-      names_fit = omega (arith, small, c.in_ok-base.ensures.names);
-      nodes_fit = omega (arith, small, c.in_ok-base.ensures.nodes);
+      base = subst (λ (ps : List Part). IsBaseOf ps c.in_ok-longer.longer.names c.in_ok-longer.longer.system) longer
+          (c.in_ok-longer.ensures.base (take i list) c.loop-part.invariant.base);
+      live = c.in_ok-longer.ensures.live ∙ ap (λ fs. fs ++ true ∷ []) c.loop-part.invariant.live
+          ∙ replicate_more i true;
+      names = omega (arith, size, c.loop-part.invariant.names, c.in_ok-longer.ensures.names);
+      nodes = omega (arith, size, c.loop-part.invariant.nodes, c.in_ok-longer.ensures.nodes);
+      small = omega (arith, c.nodes.ensures, c.if-nodes-most_nodes.false);
     }
 
-pub returns : goal.returns
-returns c =
-    let small : 65 + total_size c.args.list.now < 2 ^ 24 =
-    texts_small c.readings_are_computed.ensures.reading c.readings_are_sound.ensures c.args.list.now c.requires in
-    let none = c.in_ok-base.ensures.live in
-    record {
-      base = IfOk-weaker c.extend_all.result _ _ (λ base is. is [] c.in_ok-base.ensures.base) c.extend_all.ensures.base;
-      few_names = IfOk-weaker c.extend_all.result _ _ (λ base few. omega (arith, few, c.in_ok-base.ensures.names))
-          c.extend_all.ensures.names;
-      few_nodes = IfOk-weaker c.extend_all.result _ _ (λ base few. omega (arith, few, c.in_ok-base.ensures.nodes))
-          c.extend_all.ensures.nodes;
-      live = IfOk-weaker c.extend_all.result _ _
-          (λ base is. ap (live_parts c.args.list.now) (is
-          ∙ ap (λ fs. fs ++ replicate (length c.args.list.now) true) none)
-          ∙ live-all c.args.list.now (length c.args.list.now) refl) c.extend_all.ensures.live;
-      all = IfOk-weaker c.extend_all.result _ _ (λ base is. is
-          ∙ ap (λ fs. fs ++ replicate (length c.args.list.now) true) none) c.extend_all.ensures.live;
-      names = IfOk-weaker c.extend_all.result _ _ (λ base few. omega (arith, few, small, c.in_ok-base.ensures.names))
-          c.extend_all.ensures.names;
-      room = IfOk-weaker c.extend_all.result _ _
-          (λ base few. λ requesters short.
-          let entered : length (with_names base.names requesters) ≤ length base.names + length requesters =
-          length-with_names base.names requesters in
-          omega (arith, entered, few, short, small, c.in_ok-base.ensures.names)) c.extend_all.ensures.names;
-    }
+pub returns-clause-live : goal.returns-clause-live
+returns-clause-live c =
+    let list : List Part = c.args.list.now in
+    let size : c.loop-part.part-index ≡ length list = omega (arith, ap length c.as_slice-part-items.ensures) in
+    ap (live_parts list) (c.loop-part.invariant.live ∙ ap (λ n. replicate n true) size)
+    ∙ live-all list (length list) refl
+
+pub returns-clause-names : goal.returns-clause-names
+returns-clause-names c =
+    let list : List Part = c.args.list.now in
+    let small : 65 + total_size list < 2 ^ 24 =
+    texts_small c.readings_are_computed.ensures.reading c.readings_are_sound.ensures list c.requires in
+    let size : c.loop-part.part-index ≡ length list = omega (arith, ap length c.as_slice-part-items.ensures) in
+    let all : take c.loop-part.part-index list ≡ list = take_all c.loop-part.part-index list (omega (arith, size)) in
+    omega (arith, ap total_size all, small, c.loop-part.invariant.names)
+
+pub returns-clause-room : goal.returns-clause-room
+returns-clause-room c = λ requesters short.
+    let list : List Part = c.args.list.now in
+    let small : 65 + total_size list < 2 ^ 24 =
+    texts_small c.readings_are_computed.ensures.reading c.readings_are_sound.ensures list c.requires in
+    let size : c.loop-part.part-index ≡ length list = omega (arith, ap length c.as_slice-part-items.ensures) in
+    let all : take c.loop-part.part-index list ≡ list = take_all c.loop-part.part-index list (omega (arith, size)) in
+    let entered : length (with_names c.loop-part.base.names requesters) ≤ length c.loop-part.base.names
+    + length requesters = length-with_names c.loop-part.base.names requesters in
+    omega (arith, entered, ap total_size all, short, small, c.loop-part.invariant.names)

@@ -51,7 +51,7 @@ returns-clause-one_formula c =
           c.requires.readable in
           subst (λ self. IsFormula (length self.names) c.match-licensees.pieces) (sym w.self-is)
           (subst (IsFormula (length names)) (sym w.pieces-is)
-          (IsFormula-alone names w.in-Some.formula readable.0 pieces readable.1 spelled))
+          (IsFormula-alone names w.in-Some.formula pieces readable.1.shallow spelled))
       | in-None+in_ok-add_piece-in-None w ↦
           let names : List (List ℕ) = c.match-licensees.self.names in
           let alone : c.match-licensees.pieces ≡ Gate 1 0 ∷ [] = w.pieces-is ∙ w.in_ok-add_piece-in-None.ensures
