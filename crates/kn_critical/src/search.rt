@@ -14,7 +14,7 @@ use crate::question::Question;
 use crate::remembered::{Picked, Remembered};
 use crate::runs::{clear_rows, is_named};
 use kn_answer::laws::bases_have_nodes;
-use kn_answer::{Answer, Assertions, Base, ConditionValues, Evaluated, Part};
+use kn_answer::{Answer, Assertions, Base, ConditionValues, Evaluated, Part, count_nodes};
 use kn_base::limits::CRITICAL_NODES;
 use kn_base::{List, NoMemory};
 use kn_env::Query;
@@ -54,11 +54,11 @@ pub fn find_critical(
     bases_have_nodes();
     // The contract of `requesters` says that there are 64 at most, each of 1 to 4,096 bytes, and none `POLICY`.
     let _requesters = query.requesters();
-    let mut base = Base::of(alloc, list)?;
-    let nodes = base.nodes();
-    if nodes > CRITICAL_NODES {
-        return Err(CriticalFault::Large { nodes });
-    }
+    let Some(mut base) = Base::of(alloc, list, CRITICAL_NODES)? else {
+        return Err(CriticalFault::Large {
+            nodes: count_nodes(list),
+        });
+    };
     Ok(search::<Brand>(alloc, &mut base, list, query)?)
 }
 

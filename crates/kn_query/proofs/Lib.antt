@@ -3,3 +3,4 @@ pub mod SharedParts
 pub mod LaterVersions
 pub mod Rows
 pub mod KeptBaseLaws
+pub mod FoundValues

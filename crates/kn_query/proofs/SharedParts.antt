@@ -101,23 +101,17 @@ parts-size told sound name texts read =
     let size = texts_size told sound (texts_in texts) (parts_of name texts) (read_parts name texts read) in
     omega (arith, size, bytes-in texts)
 
--- a session asks with its private assertions behind the credentials
-pub asked-with : (session : Session) (query : Asked) (values : List (List ℕ)) → query.attributes ≡ session.attributes
+-- what is asked of a session's assertions by its attributes, values and requesters is what the session asks
+pub asked-by : (session : Session) (query : Asked) (values : List (List ℕ)) → query.attributes ≡ session.attributes
     → query.values ≡ values → query.requesters ≡ session.requesters
-    → equations_over query (shared_parts session.pinned ++ parts_of Own session.privates) ≡ equations_of session values
-asked-with session query values attributes named requesters =
+    → equations_over query (session_parts session) ≡ equations_of session values
+asked-by session query values attributes named requesters =
     let same : query ≡ asked_of session values =
     λ i. record { attributes = attributes i; values = named i; requesters = requesters i } in
     λ i. equations_over (same i) (session_parts session)
 
 -- a session without private assertions asks with the credentials alone
-pub asked-alone : (session : Session) (query : Asked) (values : List (List ℕ)) → query.attributes ≡ session.attributes
-    → query.values ≡ values → query.requesters ≡ session.requesters → session.privates ≡ []
-    → equations_over query (shared_parts session.pinned) ≡ equations_of session values
-asked-alone session query values attributes named requesters none =
-    let same : query ≡ asked_of session values =
-    λ i. record { attributes = attributes i; values = named i; requesters = requesters i } in
-    let parts : shared_parts session.pinned ≡ session_parts session =
+pub parts-alone : (session : Session) → session.privates ≡ [] → shared_parts session.pinned ≡ session_parts session
+parts-alone session none =
     sym (append-nil (shared_parts session.pinned))
-    ∙ ap (λ ps. shared_parts session.pinned ++ parts_of Own ps) (sym none) in
-    λ i. equations_over (same i) (parts i)
+    ∙ ap (λ ps. shared_parts session.pinned ++ parts_of Own ps) (sym none)

@@ -42,22 +42,23 @@ impl KeptBases {
     }
 
     /// Takes the base of a version, or the one of the last version before it, which follows it; or else one is built.
-    /// What is left is kept as the other base, and none as the one that was asked last.
+    /// None where it would be too large to be kept. What is left is kept as the other base, and none as the one that
+    /// was asked last.
     ///
     /// `NoMemory` comes only when memory runs out.
     pub(crate) fn take_or_build(
         &mut self,
         alloc: Global,
         version: &Version,
-    ) -> Result<SharedBase, NoMemory>
+    ) -> Result<Option<SharedBase>, NoMemory>
         requires of_history { EachKept (IsOfHistory version.now) self.old }
-        ensures of_version { IfOk result (IsOfVersion version.now) }
+        ensures of_version { IfOk result (λ base. IfSome base (IsOfVersion version.now)) }
         ensures recent { self.new.recent ≡ None }
         ensures other { IfSome self.new.other (IsKeptIn self.old) }
     {
         if let Some(shared) = self.take_nearest(version.number()) {
             if let Some(followed) = shared.follow(alloc, version)? {
-                return Ok(followed);
+                return Ok(Some(followed));
             }
         }
         SharedBase::of(alloc, version)

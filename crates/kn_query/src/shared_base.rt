@@ -13,7 +13,7 @@ ghost use Rattle.kn_query.specs.SharedParts.{private_parts, shared_parts};
 use crate::following::{count_up_to, follow_removals};
 use crate::parts::{push_private, push_shared};
 use crate::shared_rows::SharedRows;
-use kn_answer::{Answer, Base};
+use kn_answer::{Answer, Base, count_nodes};
 use kn_base::{List, NoMemory};
 use kn_env::Query;
 use kn_session::Private;
@@ -22,7 +22,7 @@ use kn_store::Version;
 use std::alloc::Global;
 
 /// The most nodes of a base that is kept.
-const MOST_NODES: u32 = 131_072;
+const MOST_NODES: u32 = 262_144;
 
 /// The most principals of a base that is kept.
 const MOST_PRINCIPALS: u32 = 65_536;
@@ -57,9 +57,11 @@ impl Drop for SharedBase {
 }
 
 impl SharedBase {
-    /// The base of the credentials of a version. `NoMemory` comes only when memory runs out.
-    pub(crate) fn of(alloc: Global, version: &Version) -> Result<SharedBase, NoMemory>
-        ensures { IfOk result (IsOfVersion version.now) }
+    /// The base of the credentials of a version, or None where their formulas have more nodes than a base that is kept.
+    ///
+    /// `NoMemory` comes only when memory runs out.
+    pub(crate) fn of(alloc: Global, version: &Version) -> Result<Option<SharedBase>, NoMemory>
+        ensures { IfOk result (λ built. IfSome built (IsOfVersion version.now)) }
     {
         assertions_of_a_session();
         kn_assert::laws::readings_are_computed();
@@ -68,16 +70,18 @@ impl SharedBase {
         let _live = version.len();
         let mut parts = List::new(alloc);
         push_shared(&mut parts, version, 0)?;
-        let base = Base::of(alloc, &parts)?;
+        let Some(base) = Base::of(alloc, &parts, MOST_NODES)? else {
+            return Ok(None);
+        };
         let mut rows = SharedRows::new(alloc);
         rows.push_from(version, 0)?;
         let most = base.principals() + MOST_ENTERED;
-        Ok(SharedBase {
+        Ok(Some(SharedBase {
             base,
             rows,
             number: version.number(),
             most,
-        })
+        }))
     }
 
     /// The number of the version.
@@ -114,18 +118,27 @@ impl SharedBase {
         if removed > version.len() + MOST_REMOVED {
             return Ok(None);
         }
-        let followed = shared.extend(alloc, version, kept)?;
-        Ok(followed.into_kept())
+        match shared.extend(alloc, version, kept)? {
+            Some(followed) => Ok(followed.into_kept()),
+            None => Ok(None),
+        }
     }
 
-    // The base with the credentials of a version that stand behind so many of its own.
-    fn extend(self, alloc: Global, version: &Version, kept: u32) -> Result<SharedBase, NoMemory>
+    // The base with the credentials of a version that stand behind so many of its own, or None where it would have more
+    // nodes than one that is kept.
+    fn extend(
+        self,
+        alloc: Global,
+        version: &Version,
+        kept: u32,
+    ) -> Result<Option<SharedBase>, NoMemory>
         requires lacks { LacksAdditions version.now self }
         requires names { length self.base.names ≤ MOST_PRINCIPALS }
         requires nodes { node_total self.base.system.rows ≤ MOST_NODES }
         requires kept { kept ≡ length (live_credentials self.rows self.base.live) }
-        ensures { IfOk result (HasCredentials version.now) }
+        ensures { IfOk result (λ extended. IfSome extended (HasCredentials version.now)) }
     {
+        assertions_of_a_session();
         kn_assert::laws::readings_are_computed();
         kn_assert::laws::readings_are_sound();
         let number = version.number();
@@ -133,6 +146,9 @@ impl SharedBase {
         let _live = version.len();
         let mut parts = List::new(alloc);
         push_shared(&mut parts, version, kept)?;
+        if count_nodes(&parts) > MOST_NODES - self.base.nodes() {
+            return Ok(None);
+        }
         let SharedBase {
             base,
             mut rows,
@@ -145,12 +161,12 @@ impl SharedBase {
         let base = base.extend_all(alloc, &parts)?;
         rows.push_from(version, kept)?;
         let most = most.saturating_add(base.principals() - before);
-        Ok(SharedBase {
+        Ok(Some(SharedBase {
             base,
             rows,
             number,
             most,
-        })
+        }))
     }
 
     /// The answer to a query over the credentials of the version of which the base is. `NoMemory` comes only when

@@ -1,5 +1,6 @@
-use Rattle.std.proofs.Common.{◌≡◌, ◌<◌, ◌≤◌, ℕ, Bool, true, false, cond, nat_lt, Some, None, refl, ap, ◌∙◌, subst}
-use Rattle.std.proofs.Common.{arith}
+use Rattle.std.proofs.Common.{◌≡◌, ◌<◌, ◌≤◌, ℕ, Bool, true, false, cond, nat_lt, Option, Some, None, refl, ap, ◌∙◌}
+use Rattle.std.proofs.Common.{subst, arith}
+use Rattle.std.specs.Prelude.{IfSome}
 use Rattle.std.proofs.lemmas.Bool.{ltb-true}
 use Rattle.kn_base.specs.declared.limits.TheConstants.{CRITICAL_NODES}
 use Rattle.kn_meaning.specs.Critical.{equation_nodes}
@@ -15,10 +16,13 @@ few n within = by (nat_lt CRITICAL_NODES n) refl
     by true e = let above : CRITICAL_NODES < n = ltb-true CRITICAL_NODES n e in absurd (omega (arith, above, within))
     by false e = ap (λ (b : Bool). cond b (Some (F.Large n)) None) e
 
+in-some : {X : Type 0} (P : X → Type 0) (found : Option X) (x : X) → found ≡ Some x → IfSome found P → P x
+in-some P found x is h = subst (λ f. IfSome f P) is h
+
 pub returns-clause-accepted : goal.returns-clause-accepted
 returns-clause-accepted c =
-    let nodes : c.nodes-nodes.result ≡ equation_nodes (equations_over c.args.query.now c.args.list.now) =
-    c.nodes-nodes.ensures
-    ∙ c.bases_have_nodes.ensures c.args.list.now c.in_ok-base.base.names c.in_ok-base.base.system
-    c.in_ok-base.ensures.base c.args.query.now in
-    subst (λ n. critical_fault n ≡ None) nodes (few c.nodes-nodes.result c.if-nodes-gt-CRITICAL_NODES.false)
+    let of = in-some _ c.in_ok-base.field-0 c.in-Some.base c.in-Some.is c.in_ok-base.ensures.base in
+    let small = in-some _ c.in_ok-base.field-0 c.in-Some.base c.in-Some.is c.in_ok-base.ensures.small in
+    let nodes = c.bases_have_nodes.ensures c.args.list.now c.in-Some.base.names c.in-Some.base.system of
+    c.args.query.now in
+    few (equation_nodes (equations_over c.args.query.now c.args.list.now)) (omega (arith, nodes, small))

@@ -1,67 +1,45 @@
-use Rattle.std.proofs.Common.{◌≡◌, ◌<◌, ◌++◌, ℕ, List, [], length, map, sym, ap, subst, ◌∙◌}
+use Rattle.std.proofs.Common.{◌≡◌, ◌<◌, ℕ, List, length, ap, ◌∙◌, subst}
 use Rattle.std.specs.Prelude.{IfOk}
+use Rattle.kn_env.specs.Environment.{Asked}
 use Rattle.kn_meaning.specs.Equations.{Equations, IsPolicyLevel, Part, equations_over}
 use Rattle.kn_meaning.specs.Proofs as proof
-use Rattle.kn_history.specs.declared.update.Update.{Update}
 use Rattle.kn_session.specs.Sessions.{Session}
-use Rattle.kn_session.specs.Views.{numbered_text, session_of_view}
-use Rattle.kn_daemon.specs.Daemon.{equations_of}
-use Rattle.kn_query.specs.KeptBases.{EachKept, IsKeptOrOf}
-use Rattle.kn_query.specs.SharedBases.{IsOfHistory}
-use Rattle.kn_query.specs.SharedParts.{private_parts, shared_parts}
-use Rattle.kn_query.proofs.SharedParts.{asked-alone, asked-with}
+use Rattle.kn_session.specs.Views.{session_of_view}
+use Rattle.kn_daemon.specs.Daemon.{equations_of, session_parts}
+use Rattle.kn_query.proofs.FoundValues.{in-some}
+use Rattle.kn_query.proofs.SharedParts.{asked-by}
 use Rattle.kn_query.proofs.query.answer_query.Goals as goal
 
-pub answer_shared-requires : goal.answer_shared-requires
-answer_shared-requires c = record {
-  of_history = subst (λ (u : List Update). EachKept (IsOfHistory u) c.args.kept.now) (sym c.deref.ensures)
-      c.requires.of_history;
-}
-
-pub returns-then-is_empty : goal.returns-then-is_empty
-returns-then-is_empty c =
+pub returns-in-Some : goal.returns-in-Some
+returns-in-Some c =
     let session : Session = session_of_view c.args.view.now in
-    let none : session.privates ≡ [] = ap (map numbered_text) (c.is_empty.ensures.0 c.if-is_empty.true) in
-    let same : equations_over c.in_ok-query.query (shared_parts c.deref.result.now)
-    ≡ equations_of session c.args.values.now =
-    ap (λ (u : List Update). equations_over c.in_ok-query.query (shared_parts u)) c.deref.ensures
-    ∙ asked-alone session c.in_ok-query.query c.args.values.now c.in_ok-query.ensures.attributes
-    c.in_ok-query.ensures.values c.in_ok-query.ensures.requesters none in
+    let same : equations_over c.in_ok-query.query (session_parts session) ≡ equations_of session c.args.values.now =
+    asked-by session c.in_ok-query.query c.args.values.now c.in_ok-query.ensures.attributes
+    c.in_ok-query.ensures.values c.in_ok-query.ensures.requesters in
     record {
-      proof = subst (λ (e : Equations). IfOk c.answer_shared.result (λ a. proof.IsProof e a.rows a.value)) same
-          c.answer_shared.ensures.proof;
-      least = subst (λ (e : Equations). IfOk c.answer_shared.result (λ a. IsPolicyLevel e a.value)) same
-          c.answer_shared.ensures.least;
-      below = subst (λ (vs : List (List ℕ)). IfOk c.answer_shared.result (λ a. a.value < length vs))
-          c.in_ok-query.ensures.values c.answer_shared.ensures.below;
-      of_version = subst (λ (u : List Update). EachKept (IsKeptOrOf u c.args.kept.now) c.answer_shared.new.kept)
-          c.deref.ensures c.answer_shared.ensures.of_version;
+      proof = subst (λ (e : Equations). proof.IsProof e c.in-Some.found.rows c.in-Some.found.value) same
+          (in-some _ _ _ c.in-Some.is c.in_ok-found.ensures.proof);
+      least = subst (λ (e : Equations). IsPolicyLevel e c.in-Some.found.value) same
+          (in-some _ _ _ c.in-Some.is c.in_ok-found.ensures.least);
+      below = subst (λ (vs : List (List ℕ)). c.in-Some.found.value < length vs) c.in_ok-query.ensures.values
+          (in-some _ _ _ c.in-Some.is c.in_ok-found.ensures.below);
+      of_version = c.answer_by_base.ensures.of_version;
     }
-
-pub answer_own-requires : goal.answer_own-requires
-answer_own-requires c = record {
-  privates = c.requires.privates;
-  readings = c.requires.readings;
-  of_history = subst (λ (u : List Update). EachKept (IsOfHistory u) c.args.kept.now) (sym c.deref-else-is_empty.ensures)
-      c.requires.of_history;
-}
 
 pub returns : goal.returns
 returns c =
     let session : Session = session_of_view c.args.view.now in
-    let own : List Part = private_parts c.args.view.now.private.now in
-    let same : equations_over c.in_ok-query.query (shared_parts c.deref-else-is_empty.result.now ++ own)
+    let same : equations_over c.in_ok-query.query c.in_ok-parts_of_view-in-None.field-0
     ≡ equations_of session c.args.values.now =
-    ap (λ (u : List Update). equations_over c.in_ok-query.query (shared_parts u ++ own)) c.deref-else-is_empty.ensures
-    ∙ asked-with session c.in_ok-query.query c.args.values.now c.in_ok-query.ensures.attributes
+    ap (equations_over c.in_ok-query.query) c.in_ok-parts_of_view-in-None.ensures.parts
+    ∙ asked-by session c.in_ok-query.query c.args.values.now c.in_ok-query.ensures.attributes
     c.in_ok-query.ensures.values c.in_ok-query.ensures.requesters in
     record {
-      proof = subst (λ (e : Equations). IfOk c.answer_own.result (λ a. proof.IsProof e a.rows a.value)) same
-          c.answer_own.ensures.proof;
-      least = subst (λ (e : Equations). IfOk c.answer_own.result (λ a. IsPolicyLevel e a.value)) same
-          c.answer_own.ensures.least;
-      below = subst (λ (vs : List (List ℕ)). IfOk c.answer_own.result (λ a. a.value < length vs))
-          c.in_ok-query.ensures.values c.answer_own.ensures.below;
-      of_version = subst (λ (u : List Update). EachKept (IsKeptOrOf u c.args.kept.now) c.answer_own.new.kept)
-          c.deref-else-is_empty.ensures c.answer_own.ensures.of_version;
+      proof = subst (λ (e : Equations). IfOk c.answer-in-None.result (λ a. proof.IsProof e a.rows a.value)) same
+          c.answer-in-None.ensures.proof;
+      least = subst (λ (e : Equations). IfOk c.answer-in-None.result (λ a. IsPolicyLevel e a.value)) same
+          c.answer-in-None.ensures.least;
+      below = subst (λ (vs : List (List ℕ)). IfOk c.answer-in-None.result (λ a. a.value < length vs))
+          c.in_ok-query.ensures.values c.answer-in-None.ensures.below;
+      of_version = c.answer_by_base.ensures.of_version;
     }

@@ -8,12 +8,12 @@ use Rattle.kn_history.specs.History.{NumberedText, additions, all_changes, crede
 use Rattle.kn_history.specs.Ids.{IdsAscend}
 use Rattle.kn_daemon.specs.Daemon.{parts_of}
 use Rattle.kn_answer.specs.Based.{IsBaseOf}
-use Rattle.kn_answer.specs.Sizes.{IsReadablePart, total_size}
+use Rattle.kn_answer.specs.Sizes.{HaveTexts, IsReadablePart, total_size}
 use Rattle.kn_query.specs.Following.{AreUpTo, live_credentials}
 use Rattle.kn_query.specs.SharedParts.{AreRead}
 use Rattle.kn_query.proofs.LaterVersions.{additions-grow, all-both, newer-above, newer-up_to, up_to-more}
 use Rattle.kn_query.proofs.Rows.{ascend-both, ascend-last, later-bytes, later-parts, live-both}
-use Rattle.kn_query.proofs.SharedParts.{parts-count, parts-readable, parts-size}
+use Rattle.kn_query.proofs.SharedParts.{parts-count, parts-readable, parts-size, shared-texts}
 use Rattle.kn_query.proofs.shared_base.SharedBase.extend.Goals as goal
 
 pub push_shared-requires : goal.push_shared-requires
@@ -22,6 +22,25 @@ push_shared-requires c =
     let left : List NumberedText = live_credentials c.args.self.rows c.args.self.base.live in
     let more : List NumberedText = credentials_of (drop c.args.self.number c.args.version.now) in
     omega (arith, c.requires.kept, ap length lacks.live, length-append left more)
+
+pub count_nodes-requires : goal.count_nodes-requires
+count_nodes-requires c =
+    let version : List Update = c.args.version.now in
+    let lacks = c.requires.lacks in
+    let left : List NumberedText = live_credentials c.args.self.rows c.args.self.base.live in
+    let more : List NumberedText = credentials_of (drop c.args.self.number version) in
+    let rest : drop c.args.kept (credentials_of version) ≡ more =
+    ap (drop c.args.kept) lacks.live ∙ drop_at left more c.args.kept (sym c.requires.kept) in
+    let read : AreRead more = subst (λ (l : List NumberedText). AreRead l) rest c.in_ok-push_shared.ensures.read in
+    let pushed : c.push_shared.new.parts ≡ parts_of Shared more =
+    c.in_ok-push_shared.ensures.parts
+    ∙ ap (λ (l : List Part). l ++ parts_of Shared (drop c.args.kept (credentials_of version))) c.new-parts.ensures
+    ∙ ap (parts_of Shared) rest in
+    let bytes : text_bytes more ≤ text_bytes (credentials_of version) =
+    subst (λ (l : List NumberedText). text_bytes more ≤ text_bytes l) (sym lacks.live) (later-bytes left more) in
+    subst (λ (l : List Part). HaveTexts l) (sym pushed)
+    (shared-texts c.assertions_of_a_session.ensures.bytes more read
+    (omega (arith, bytes, c.len-live.ensures.bytes_limit)))
 
 pub extend_all-requires : goal.extend_all-requires
 extend_all-requires c =

@@ -12,6 +12,7 @@ use Rattle.kn_query.specs.Following.{AreUpTo, live_credentials}
 use Rattle.kn_query.specs.SharedParts.{shared_parts}
 use Rattle.kn_query.proofs.LaterVersions.{ids-up_to}
 use Rattle.kn_query.proofs.Rows.{live-everything}
+use Rattle.kn_query.proofs.FoundValues.{in-some}
 use Rattle.kn_query.proofs.SharedParts.{parts-count, parts-size, shared-texts}
 use Rattle.kn_query.proofs.shared_base.SharedBase.of.Goals as goal
 
@@ -40,21 +41,24 @@ returns c =
     let size = parts-size c.readings_are_computed.ensures.reading c.readings_are_sound.ensures Shared live read in
     let total = ap total_size whole in
     let count : length c.push_shared.new.parts ≡ length live = ap length whole ∙ parts-count Shared live read in
+    let all = in-some _ _ _ c.in-Some.is c.in_ok-base.ensures.all in
+    let few_names = in-some _ _ _ c.in-Some.is c.in_ok-base.ensures.few_names in
+    let few_nodes = in-some _ _ _ c.in-Some.is c.in_ok-base.ensures.few_nodes in
     record {
       credentials = record {
         number = c.number.ensures.number;
         has_rows = record {
-          of = subst (λ (ps : List Part). IsBaseOf ps c.in_ok-base.base.names c.in_ok-base.base.system) (whole
-              ∙ ap (parts_of Shared) (sym rows)) c.in_ok-base.ensures.base;
-          flags = ap length c.in_ok-base.ensures.all ∙ length-replicate (length c.push_shared.new.parts) true ∙ count
+          of = subst (λ (ps : List Part). IsBaseOf ps c.in-Some.base.names c.in-Some.base.system) (whole
+              ∙ ap (parts_of Shared) (sym rows)) (in-some _ _ _ c.in-Some.is c.in_ok-base.ensures.base);
+          flags = ap length all ∙ length-replicate (length c.push_shared.new.parts) true ∙ count
               ∙ ap length (sym rows);
         };
-        live = ap (λ (l : List NumberedText). live_credentials l c.in_ok-base.base.live) rows
-            ∙ ap (live_credentials live) (c.in_ok-base.ensures.all ∙ ap (λ (n : ℕ). replicate n true) count)
+        live = ap (λ (l : List NumberedText). live_credentials l c.in-Some.base.live) rows
+            ∙ ap (live_credentials live) (all ∙ ap (λ (n : ℕ). replicate n true) count)
             ∙ live-everything live;
         newest = subst (AreUpTo (additions (all_changes version))) (sym rows)
             (ids-up_to version c.number.ensures.valid);
       };
-      few_names = omega (arith, total, size, c.in_ok-base.ensures.few_names, c.len-live.ensures.bytes_limit);
-      few_nodes = omega (arith, total, size, c.in_ok-base.ensures.few_nodes, c.len-live.ensures.bytes_limit);
+      few_names = omega (arith, total, size, few_names, c.len-live.ensures.bytes_limit);
+      few_nodes = omega (arith, total, size, few_nodes, c.len-live.ensures.bytes_limit);
     }
