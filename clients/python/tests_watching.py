@@ -357,10 +357,10 @@ class Asked(Room):
         with open("output", "rb") as output:
             proof = drawing.Proof("policy.kn", "script", output.read())
         sorts = {box.key: box.sort for box in drawing.picture_of(proof).boxes.values()}
-        self.assertEqual((sorts["ca1"], sorts["ca2"]), ("credential", "critical"))
+        self.assertEqual((sorts["ca3"], sorts["ca2"]), ("credential", "critical"))
         dot = "\n".join(drawing.dot_of(proof))
         self.assertRegex(dot, r'label="a2, policy.kn:4:1.*", shape=box, style=bold\];')
-        self.assertRegex(dot, r'label="a1, policy.kn:1:1.*", shape=box\];')
+        self.assertRegex(dot, r'label="a3, policy.kn:7:1.*", shape=box\];')
         page = keynoted.pages.page_of(proof, drawing.picture_of(proof))
         self.assertEqual((page.count('class="critical"'), page.count('class="credential"')), (1, 1))
         self.write("output", b'VALUE 1 yes 3 1\nROW 1 a1 "POLICY"\nEND\n')
