@@ -112,13 +112,24 @@ def spell_name(number):
     return "".join(ALPHABET[number // len(ALPHABET) ** i % len(ALPHABET)] for i in range(4))
 
 
-def chain_of(leaves, start=None):
-    """A chain of credentials with so many licensees each: of one name, or of different ones where a start is given."""
+def chain_of(leaves, start=None, last=None):
+    """A chain of credentials with so many licensees each: of one name, or of different ones where a start is given. The
+    authorizer of the last one may have another name."""
     texts, names = [], ["POLICY"] + [f"b{i}" for i in range(1, CREDENTIALS + 1)]
+    names[-2] = last or names[-2]
     for at, (name, after) in enumerate(zip(names, names[1:])):
         others = ["a" if start is None else spell_name(start + at * leaves + i) for i in range(leaves - 1)]
         licensees = "||".join(f'"{other}"' for other in [*others, after])
         texts.append(fill(f'Authorizer: "{name}"\nLicensees: {licensees}\n'))
+    return texts
+
+
+def chain_of_constants():
+    """A chain of credentials with as many licensees as there is room for: a local constant, which takes two bytes."""
+    texts, names = [], ["POLICY"] + [f"b{i}" for i in range(1, CREDENTIALS - 1)] + ["a", f"b{CREDENTIALS}"]
+    for name, after in zip(names, names[1:]):
+        front = f'Local-Constants: A="a"\nAuthorizer: "{name}"\nLicensees: 1-of('
+        texts.append(front + "A," * ((TEXT_BYTES - len(front) - len(f'"{after}")\n')) // 2) + f'"{after}")\n')
     return texts
 
 
@@ -128,12 +139,15 @@ def chain_with_conditions():
 
 
 # the texts of each policy: chains that are filled by a comment, by conditions, by licensees of one name (about as many
-# as a base may have that is kept, and as many as there is room for), and by licensees of different names (likewise)
+# as a base may have that is kept, and as many as there is room for, also where the name is an authorizer's and so has a
+# level), and by licensees of different names (likewise)
 SHAPES = {
     "a comment": lambda: chain_of(1),
     "conditions": chain_with_conditions,
-    "60 licensees": lambda: chain_of(60),
+    "120 licensees": lambda: chain_of(120),
     "800 licensees": lambda: chain_of(800),
+    "800 authorizers": lambda: chain_of(800, last="a"),
+    "2,000 constants": chain_of_constants,
     "30 names": lambda: chain_of(30, 0),
     "500 names": lambda: chain_of(500, 0),
 }

@@ -43,7 +43,7 @@ KINDS = [
 LARGE, STRANGE = 500, 500
 LARGE_KIND = Kind("large texts", (5, 8), (328, 340), (1, 1), {"add": 12, "drop": 12, "batch": 0, "critical": 0})
 STRANGE_KIND = Kind("strangers", (5, 8), (4, 12), (1, 4), {"strangers": 40, "query": 0, "turns": 0, "between": 0})
-LARGE_LEAVES, LARGE_QUERIES, STRANGE_QUERIES = 3200, 10, 75
+LARGE_BYTES, LARGE_QUERIES, STRANGE_QUERIES = 16_000, 10, 75
 
 
 class Peer:
@@ -150,8 +150,9 @@ class History:
         return text
 
     def draw_large(self, at):
-        """Licensees of many nodes, which lead to nobody who asks, and one more."""
-        return b"||".join([b'"!"'] * LARGE_LEAVES + [self.draw_licensee(at)])
+        """Licensees of many nodes, of a name that nobody has who asks or of one that may have a level, and one more."""
+        name = b'"!"' if self.random.random() < 0.5 else self.draw_licensee(at)
+        return b"||".join([name] * (LARGE_BYTES // len(name + b"||")) + [self.draw_licensee(at)])
 
     # -- steps
 
