@@ -7,4 +7,5 @@ pub mod Located
 pub mod Removed
 pub mod Based
 pub mod Narrowed
+pub mod Unaffected
 pub mod Laws

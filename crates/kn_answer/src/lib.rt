@@ -14,6 +14,7 @@ mod narrowed_rows;
 mod node_count;
 mod numbered;
 mod types;
+mod unaffected;
 mod with_others;
 
 pub use answers::answer;

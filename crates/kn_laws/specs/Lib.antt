@@ -1,3 +1,4 @@
 pub mod Least
 pub mod Laws
 pub mod Tested
+pub mod Unaffected

@@ -4,3 +4,4 @@ pub mod Climbing
 pub mod Found
 pub mod Raising
 pub mod Watched
+pub mod Unaffected

