@@ -6,6 +6,7 @@
 mod critical;
 mod following;
 mod kept_bases;
+mod level;
 mod parts;
 mod query;
 mod shared_base;
@@ -14,4 +15,5 @@ mod shared_rows;
 
 pub use critical::find_critical;
 pub use kept_bases::KeptBases;
+pub use level::{KnownLevel, find_level};
 pub use query::{answer_query, build_query};
