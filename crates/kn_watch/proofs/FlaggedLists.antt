@@ -1,7 +1,8 @@
 -- The list of those who are flagged.
 use Rattle.std.proofs.Common.{◌≡◌, ◌⊎◌, ℕ, suc, zero, ◌+◌, ◌<◌, ◌≤◌, Bool, true, false, Some, List, [], ◌∷◌, ◌++◌}
-use Rattle.std.proofs.Common.{length, replicate, slice_get, slice_set, refl, sym, ap, ◌∙◌, subst, inl, inr, append-nil}
-use Rattle.std.proofs.Common.{arith}
+use Rattle.std.proofs.Common.{length, get_or, replicate, slice_get, slice_set, refl, sym, ap, ◌∙◌, subst, inl, inr}
+use Rattle.std.proofs.Common.{append-nil, arith}
+use Rattle.std.proofs.lemmas.Option.{slice_get-get_or}
 use Rattle.std.proofs.lemmas.Bool.{cases_lt, cases_eq, false≢true}
 use Rattle.std.proofs.lemmas.List.{append_assoc, get_or-set_same, get_or-set_other, get_or_past, set-get_or}
 use Rattle.kn_watch.specs.Affected.{IsSubset, is_affected, sum_over}
@@ -9,7 +10,7 @@ use Rattle.kn_watch.specs.Found.{AreFound, sum_of}
 use mathlib.Core.List.{IsPrefix}
 use Rattle.kn_watch.proofs.Sums.{sum_of-ones, sum_of-push, sum_over-none, sum_over-ones, sum_over-set}
 
-none-flagged : (n p : ℕ) → is_affected (replicate n false) p ≡ false
+pub none-flagged : (n p : ℕ) → is_affected (replicate n false) p ≡ false
 none-flagged zero p = refl
 none-flagged (suc n) zero = refl
 none-flagged (suc n) (suc p) = none-flagged n p
@@ -116,3 +117,9 @@ pub front-kept : (flags next : List Bool) (found more : List ℕ) → AreFound f
 front-kept flags next found more h g (rest, e) = λ p is.
     let (i, at) = h.listed p is in
     g.flagged i p (ap (λ xs. slice_get xs i) (sym e) ∙ get-front found rest i p at)
+
+-- the principal that was read of the list
+pub found-read : (found seen : List ℕ) (n at : ℕ) → seen ≡ found → n ≡ length found → at < n
+    → slice_get found at ≡ Some (get_or seen at 0)
+found-read found seen n at e size l = slice_get-get_or found at 0 (omega arith)
+    ∙ ap (λ xs. Some (get_or xs at 0)) (sym e)

@@ -4,6 +4,7 @@ pub mod StartLevels
 pub mod RaisedLevels
 pub mod Sums
 pub mod FlaggedLists
+pub mod FewFound
 pub mod Nodes
 pub mod AffectedSpread
 pub mod RefreshSteps

@@ -171,8 +171,8 @@ pub(crate) fn affected_by<L>(
     Ok(flags)
 }
 
-// The row in whose formula a node stands. One tick for each node on the way up.
-fn row_of<L>(system: &System<L>, node: u32, steps: &mut Steps<L>) -> u32
+/// The row in whose formula a node stands. One tick for each node on the way up.
+pub(crate) fn row_of<L>(system: &System<L>, node: u32, steps: &mut Steps<L>) -> u32
     requires well_formed { IsSystem system.now }
     requires in_range { node < node_total system.now.rows }
     ensures exact { result ≡ row_of_node system.now.rows node }

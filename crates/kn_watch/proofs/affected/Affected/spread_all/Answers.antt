@@ -1,16 +1,9 @@
-use Rattle.std.proofs.Common.{◌≡◌, ◌<◌, ◌≤◌, ℕ, Some, Bool, true, List, length, get_or, slice_get, sym, ap, ◌∙◌, arith}
-use Rattle.std.proofs.lemmas.Option.{slice_get-get_or}
+use Rattle.std.proofs.Common.{◌≡◌, ◌<◌, ◌≤◌, ℕ, Some, Bool, true, List, length, get_or, slice_get, arith}
 use Rattle.kn_system.specs.Equations.{SystemEquations}
 use Rattle.kn_watch.specs.Affected.{IsSubset, is_affected}
-use Rattle.kn_watch.proofs.FlaggedLists.{flag-within, found-length, front-kept}
+use Rattle.kn_watch.proofs.FlaggedLists.{flag-within, found-length, found-read, front-kept}
 use Rattle.kn_watch.proofs.AffectedSpread.{find-next, find-within, find-within-next, spread-all, spread-next}
 use Rattle.kn_watch.proofs.affected.Affected.spread_all.Goals as goal
-
--- the principal that was read of the list
-found-read : (found seen : List ℕ) (n at : ℕ) → seen ≡ found → n ≡ length found → at < n
-    → slice_get found at ≡ Some (get_or seen at 0)
-found-read found seen n at e size l = slice_get-get_or found at 0 (omega arith)
-    ∙ ap (λ xs. Some (get_or xs at 0)) (sym e)
 
 pub spread-requires-clause-in_range : goal.spread-requires-clause-in_range
 spread-requires-clause-in_range g c =
