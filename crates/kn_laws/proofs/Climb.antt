@@ -17,7 +17,7 @@ abbrev pub Carries : ℕ → Levels → Levels → Type 0
 Carries u at other = (name : List ℕ) → u ≤ at name → u ≤ other name
 
 -- the level of a formula by its parts
-formula_level-roll : (top : ℕ) (at : Levels) (x : Formula-F Formula)
+pub formula_level-roll : (top : ℕ) (at : Levels) (x : Formula-F Formula)
     → formula_level top at (roll-Formula x) ≡ level_step top at (map-Formula Formula ℕ (formula_level top at) x)
 unfolding formula_level
 formula_level-roll top at x = fold-roll-Formula ℕ (level_step top at) x

@@ -8,3 +8,5 @@ pub mod PlainProofs
 pub mod Exists
 pub mod UnnamedAssertions
 pub mod FewerAssertions
+pub mod FormulaNames
+pub mod UnaffectedLevels

@@ -9,7 +9,8 @@ use Rattle.kn_meaning.specs.Occurring.{licensees_names}
 
 -- if the assertion names an affected principal, its authorizer is affected
 abbrev pub IsUserAffected : (List ℕ → Bool) → Part → Type 0
-IsUserAffected affected part = (name : List ℕ) → list_any (bytes_eq name) (licensees_names part.assertion.licensees) ≡ true
+IsUserAffected affected part =
+    (name : List ℕ) → list_any (bytes_eq name) (licensees_names part.assertion.licensees) ≡ true
     → affected name ≡ true → affected part.assertion.authorizer ≡ true
 
 -- the assertions whose authorizers aren't affected

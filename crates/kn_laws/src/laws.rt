@@ -5,6 +5,7 @@ ghost use Rattle.kn_laws.specs.Laws.{EveryQueryHasALevel, EveryQueryHasOneLevel,
 ghost use Rattle.kn_laws.specs.Laws.{ProofDeterminesLevel, EveryQueryHasAProof};
 ghost use Rattle.kn_laws.specs.Laws.{RowsStayAProof, UnnamedIsNotCritical, CriticalIsOne};
 ghost use Rattle.kn_laws.specs.Laws.{FewerLowerAll, FewerNeverRaise};
+ghost use Rattle.kn_laws.specs.Unaffected.{UnaffectedKeepLevel};
 
 /// As many rounds as a query has principals times the top, from the requesters at the top and all others at 0, give the
 /// least levels.
@@ -49,4 +50,10 @@ pub fn unnamed_is_not_critical()
 pub fn fewer_never_raise()
     ensures all { FewerLowerAll }
     ensures policy { FewerNeverRaise }
+{}
+
+/// Where assertions come and go, the policy keeps its level if it isn't in a set of principals that has their
+/// authorizers and, with a principal, the authorizers of all assertions that name it.
+pub fn unaffected_keep_level()
+    ensures { UnaffectedKeepLevel }
 {}
