@@ -22,3 +22,5 @@ pub mod LongerBases
 pub mod NarrowedFormulas
 pub mod NarrowedQueries
 pub mod NarrowedBases
+pub mod NamedLeaves
+pub mod UnaffectedBases

@@ -3,8 +3,13 @@ ghost use Rattle.std.specs.Prelude.{◌≡◌, ◌<◌, All, true, length, IfOk}
 ghost use Rattle.kn_answer.specs.Unaffected.{KeepsPolicyLevel};
 
 use crate::base::Base;
-use kn_base::NoMemory;
+use crate::types::Tally;
+use kn_base::{NoMemory, Steps};
+use kn_watch::is_unaffected;
 use std::alloc::Global;
+
+/// The policy's number in a base.
+const POLICY: u32 = 0;
 
 /// How many principals a change may affect before it isn't looked further.
 const MOST_AFFECTED: u32 = 64;
@@ -18,6 +23,14 @@ impl Base {
         requires in_range { All (λ row. row < length self.now.live) rows.now }
         ensures kept { IfOk result (λ keeps. keeps ≡ true → KeepsPolicyLevel rows.now self.now) }
     {
-        Ok(false)
+        kn_laws::laws::unaffected_keep_level();
+        is_unaffected(
+            alloc,
+            &self.numbered.system,
+            rows,
+            POLICY,
+            MOST_AFFECTED,
+            &mut Steps::start(Tally),
+        )
     }
 }
