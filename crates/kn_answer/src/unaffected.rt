@@ -1,5 +1,6 @@
 //! Whether the policy keeps its level while assertions of a base come and go.
 ghost use Rattle.std.specs.Prelude.{◌≡◌, ◌<◌, All, true, length, IfOk};
+ghost use Rattle.kn_watch.specs.Unaffected.{IsKnown};
 ghost use Rattle.kn_answer.specs.Unaffected.{KeepsPolicyLevel};
 
 use crate::base::Base;
@@ -22,6 +23,7 @@ impl Base {
     pub fn keeps_policy_level(&self, alloc: Global, rows: &[u32]) -> Result<bool, NoMemory>
         requires in_range { All (λ row. row < length self.now.live) rows.now }
         ensures kept { IfOk result (λ keeps. keeps ≡ true → KeepsPolicyLevel rows.now self.now) }
+        ensures known { IfOk result (IsKnown self.now.system rows.now 0 64) }
     {
         kn_laws::laws::unaffected_keep_level();
         is_unaffected(
