@@ -1,6 +1,6 @@
 -- The credentials of a version by their places, and what a query over them needs.
-use Rattle.std.proofs.Common.{◌≡◌, ℕ, zero, suc, ◌≤◌, List, [], ◌∷◌, ◌++◌, All, length, map, slice_get, Option, Some}
-use Rattle.std.proofs.Common.{refl, sym, ap, subst, ◌∙◌, arith}
+use Rattle.std.proofs.Common.{◌≡◌, ℕ, zero, suc, ◌≤◌, List, [], ◌∷◌, ◌++◌, All, length, map, slice_get, take, Option}
+use Rattle.std.proofs.Common.{Some, refl, sym, ap, subst, ◌∙◌, arith}
 use Rattle.std.specs.Prelude.{sum_by}
 use Rattle.std.specs.List.{IsDistinct}
 use Rattle.std.proofs.lemmas.List.{append-nil}
@@ -11,10 +11,10 @@ use Rattle.kn_trees.specs.declared.assertion.Assertion.{Assertion}
 use Rattle.kn_assert.specs.Reading.{assertion_of}
 use Rattle.kn_proof.specs.declared.named.Id.{Id}
 use Rattle.kn_proof.specs.declared.named.Id.TheVariants.{Shared, Private as Own}
-use Rattle.kn_meaning.specs.Equations.{Part, equations_over}
+use Rattle.kn_meaning.specs.Equations.{IsPolicyLevel, Part, equations_over}
 use Rattle.kn_history.specs.History.{NumberedText, text_bytes}
 use Rattle.kn_env.specs.Environment.{Asked}
-use Rattle.kn_session.specs.Sessions.{Session}
+use Rattle.kn_session.specs.Sessions.{Session, pin_at}
 use Rattle.kn_session.specs.Views.{ArePrivates}
 use Rattle.kn_session.specs.Laws.{TextsAreShort}
 use Rattle.kn_daemon.specs.Daemon.{part_by, parts_of, asked_of, equations_of, session_parts}
@@ -23,6 +23,7 @@ use Rattle.kn_answer.specs.Sizes.{HaveTexts, IsReadablePart, total_size}
 use Rattle.kn_assert.proofs.Answered.{ReadingTold}
 use Rattle.kn_answer.proofs.Texts.{SoundTold, texts_readable, texts_size}
 use Rattle.kn_query.specs.SharedParts.{AreRead, shared_parts}
+use Rattle.kn_query.specs.Steady.{KeepsLevel}
 use Rattle.kn_query.proofs.Texts.{found, have_texts, read_parts, texts_in}
 
 -- there is one for each text
@@ -115,3 +116,16 @@ pub parts-alone : (session : Session) → session.privates ≡ [] → shared_par
 parts-alone session none =
     sym (append-nil (shared_parts session.pinned))
     ∙ ap (λ ps. shared_parts session.pinned ++ parts_of Own ps) (sym none)
+
+-- and has the value that it had over an earlier version, where the policy keeps its level
+pub value-kept : (session : Session) (n : ℕ) → session.privates ≡ []
+    → KeepsLevel (take n session.pinned) session.pinned
+    → (values : List (List ℕ)) (level : ℕ)
+    → IsPolicyLevel (equations_of (pin_at (take n session.pinned) session) values) level
+    → IsPolicyLevel (equations_of session values) level
+value-kept session n none kept values level was =
+    let asked : Asked = asked_of session values in
+    subst (λ (ps : List Part). IsPolicyLevel (equations_over asked ps) level) (parts-alone session none)
+    (kept asked level
+    (subst (λ (ps : List Part). IsPolicyLevel (equations_over asked ps) level)
+    (sym (parts-alone (pin_at (take n session.pinned) session) none)) was))

@@ -1,11 +1,12 @@
 //! The bases that are kept from one query to the next.
-ghost use Rattle.std.specs.Prelude.{◌≡◌, ◌<◌, ◌≤◌, List as ListOf, None, length, IfOk, IfSome};
+ghost use Rattle.std.specs.Prelude.{◌≡◌, ◌<◌, ◌≤◌, true, List as ListOf, None, Ok, length, take, IfOk, IfSome, OnOk};
 ghost use Rattle.kn_history.specs.declared.update.Update.{Update};
 ghost use Rattle.kn_meaning.specs.Equations.{IsPolicyLevel, equations_over};
 ghost use Rattle.kn_meaning.specs.Proofs.{IsProof};
-ghost use Rattle.kn_query.specs.KeptBases.{EachKept, IsKeptIn};
+ghost use Rattle.kn_query.specs.KeptBases.{EachKept, IsKeptIn, IsKeptOrOf};
 ghost use Rattle.kn_query.specs.SharedBases.{HasCredentials, IsOfHistory, IsOfVersion};
 ghost use Rattle.kn_query.specs.SharedParts.{shared_parts};
+ghost use Rattle.kn_query.specs.Steady.{Covers, KeepsLevel};
 
 use crate::shared_base::SharedBase;
 use kn_answer::Answer;
@@ -89,6 +90,49 @@ impl KeptBases {
         Some(answer)
     }
 
+    /// Whether it is known that the policy has the same level over the version of this earlier number, whatever is
+    /// asked, as over this one. The nearest base follows the version for it, and none is built.
+    ///
+    /// `NoMemory` comes only when memory runs out.
+    pub(crate) fn is_steady_since(
+        &mut self,
+        alloc: Global,
+        version: &Version,
+        earlier: u32,
+    ) -> Result<bool, NoMemory>
+        requires of_history { EachKept (IsOfHistory version.now) self.old }
+        ensures steady { IfOk result (λ steady. steady ≡ true → KeepsLevel (take earlier version.now) version.now) }
+        ensures itself { earlier ≡ length version.now → result ≡ Ok true }
+        ensures all { IfOk result (λ steady.
+            IfSome self.new.recent (λ shared. Covers shared.steady earlier → steady ≡ true)) }
+        ensures of_version { EachKept (IsKeptOrOf version.now self.old) self.new }
+    {
+        if earlier == version.number() {
+            return Ok(true);
+        }
+        self.follow_to(alloc, version)?;
+        match &self.recent {
+            Some(shared) => Ok(shared.is_steady_since(earlier)),
+            None => Ok(false),
+        }
+    }
+
+    // Has the base that is nearest to a version follow it. It becomes the one that was asked last, and where there is
+    // none, none does.
+    fn follow_to(&mut self, alloc: Global, version: &Version) -> Result<(), NoMemory>
+        requires of_history { EachKept (IsOfHistory version.now) self.old }
+        ensures recent { OnOk result (IfSome self.new.recent (IsOfVersion version.now)) }
+        ensures of_version { EachKept (IsKeptOrOf version.now self.old) self.new }
+    {
+        if has_number(&self.recent, version.number()) {
+            return Ok(());
+        }
+        if let Some(shared) = self.take_nearest(version.number()) {
+            self.recent = shared.follow(alloc, version)?;
+        }
+        Ok(())
+    }
+
     /// Keeps a base as the one that was asked last, where it is small enough.
     pub(crate) fn keep(&mut self, shared: SharedBase)
         ensures recent { (version : ListOf Update) → HasCredentials version shared
@@ -141,6 +185,16 @@ fn answer_in_place(
     match kept {
         Some(shared) if shared.number() == version.number() => Some(shared.answer(alloc, query)),
         _ => None,
+    }
+}
+
+// Whether there is a base, and of the version of this number.
+fn has_number(kept: &Option<SharedBase>, number: u32) -> bool
+    ensures { result ≡ true → IfSome kept.now (λ shared. shared.number ≡ number) }
+{
+    match kept {
+        Some(shared) => shared.number() == number,
+        None => false,
     }
 }
 

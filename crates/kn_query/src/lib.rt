@@ -3,6 +3,7 @@
 //! next. Each statement is over the session's equations of the sequential specification.
 #![tactic(auto)]
 
+mod changed_rows;
 mod critical;
 mod following;
 mod kept_bases;
@@ -12,6 +13,7 @@ mod query;
 mod shared_base;
 mod shared_row;
 mod shared_rows;
+mod steady;
 
 pub use critical::find_critical;
 pub use kept_bases::KeptBases;

@@ -7,12 +7,15 @@ ghost use Rattle.kn_meaning.specs.Proofs.{IsProof};
 ghost use Rattle.kn_session.specs.Views.{numbered_text, AreReadPrivates, ArePrivates};
 ghost use Rattle.kn_system.specs.Equations.{node_total};
 ghost use Rattle.kn_query.specs.Following.{live_credentials};
-ghost use Rattle.kn_query.specs.SharedBases.{HasCredentials, HasRows, IsOfVersion, LacksAdditions};
+ghost use Rattle.kn_query.specs.SharedBases.{GoesOnFrom, HasCredentials, HasRows, IsOfVersion, LacksAdditions};
 ghost use Rattle.kn_query.specs.SharedParts.{private_parts, shared_parts};
+ghost use Rattle.kn_query.specs.Steady.{Covers, KeepsLevel};
 
+use crate::changed_rows::ChangedRows;
 use crate::following::{count_up_to, follow_removals};
 use crate::parts::{push_private, push_shared};
 use crate::shared_rows::SharedRows;
+use crate::steady::Steady;
 use kn_answer::{Answer, Base, count_nodes};
 use kn_base::{List, NoMemory};
 use kn_env::Query;
@@ -40,6 +43,8 @@ pub struct SharedBase {
     // The credentials of its rows.
     rows: SharedRows,
     number: u32,
+    // The earlier versions over which the policy has the level that it has over this one.
+    steady: Steady,
     // The most principals with which it is kept.
     most: u32,
 }
@@ -51,6 +56,7 @@ impl Drop for SharedBase {
             base,
             rows,
             number: _,
+            steady: _,
             most: _,
         } = self;
     }
@@ -76,10 +82,12 @@ impl SharedBase {
         let mut rows = SharedRows::new(alloc);
         rows.push_from(version, 0)?;
         let most = base.principals() + MOST_ENTERED;
+        let number = version.number();
         Ok(Some(SharedBase {
             base,
             rows,
-            number: version.number(),
+            number,
+            steady: Steady::at(number),
             most,
         }))
     }
@@ -89,6 +97,16 @@ impl SharedBase {
         ensures { result ≡ self.now.number }
     {
         self.number
+    }
+
+    /// Whether it is known that the policy has the same level over the version of this number, whatever is asked, as
+    /// over that of the base.
+    pub(crate) fn is_steady_since(&self, earlier: u32) -> bool
+        ensures steady { (version : ListOf Update) → HasCredentials version self.now → result ≡ true
+            → KeepsLevel (take earlier version) version }
+        ensures all { Covers self.now.steady earlier → result ≡ true }
+    {
+        self.steady.covers(earlier)
     }
 
     /// The base where it has followed the updates of a version that goes on from its own: what they removed is no more
@@ -112,16 +130,28 @@ impl SharedBase {
             return Ok(None);
         }
         let mut shared = self;
-        follow_removals(&mut shared.base, &shared.rows, version, shared.number);
+        let (number, steady) = (shared.number, shared.steady);
+        let mut changed = ChangedRows::new();
+        follow_removals(
+            &mut shared.base,
+            &shared.rows,
+            version,
+            number,
+            &mut changed,
+        );
+        let rows = shared.rows.len();
         let kept = count_up_to(version, shared.rows.last_id());
-        let removed = shared.rows.len().saturating_sub(kept);
-        if removed > version.len() + MOST_REMOVED {
+        if rows.saturating_sub(kept) > version.len() + MOST_REMOVED {
             return Ok(None);
         }
-        match shared.extend(alloc, version, kept)? {
-            Some(followed) => Ok(followed.into_kept()),
-            None => Ok(None),
+        let Some(mut followed) = shared.extend(alloc, version, kept)? else {
+            return Ok(None);
+        };
+        changed.add_range(rows, followed.rows.len());
+        if changed.keep_policy_level(alloc, &followed.base)? {
+            followed.steady = steady.since(number);
         }
+        Ok(followed.into_kept())
     }
 
     // The base with the credentials of a version that stand behind so many of its own, or None where it would have more
@@ -136,7 +166,8 @@ impl SharedBase {
         requires names { length self.base.names ≤ MOST_PRINCIPALS }
         requires nodes { node_total self.base.system.rows ≤ MOST_NODES }
         requires kept { kept ≡ length (live_credentials self.rows self.base.live) }
-        ensures { IfOk result (λ extended. IfSome extended (HasCredentials version.now)) }
+        ensures credentials { IfOk result (λ extended. IfSome extended (HasCredentials version.now)) }
+        ensures goes_on { IfOk result (λ extended. IfSome extended (GoesOnFrom self)) }
     {
         assertions_of_a_session();
         kn_assert::laws::readings_are_computed();
@@ -153,6 +184,7 @@ impl SharedBase {
             base,
             mut rows,
             number: _,
+            steady: _,
             most,
         } = self;
         // The contract of `len` says that the texts of the rows have readings, and that their ids ascend.
@@ -165,6 +197,7 @@ impl SharedBase {
             base,
             rows,
             number,
+            steady: Steady::at(number),
             most,
         }))
     }
@@ -222,6 +255,7 @@ impl SharedBase {
             base,
             rows,
             number,
+            steady,
             most,
         } = self;
         // The contract of `len` says that the texts of the rows have readings.
@@ -233,6 +267,7 @@ impl SharedBase {
                 base,
                 rows,
                 number,
+                steady,
                 most,
             },
         ))

@@ -43,5 +43,6 @@ returns c =
         };
         live = ap (live_credentials rows) c.answer.ensures.live ∙ held.live;
         newest = held.newest;
+        steady = held.steady;
       };
     }

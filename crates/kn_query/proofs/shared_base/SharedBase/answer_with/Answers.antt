@@ -84,5 +84,6 @@ returns c =
         };
         live = ap (live_credentials rows) c.in_ok-answer.ensures.live ∙ held.live;
         newest = held.newest;
+        steady = held.steady;
       };
     }

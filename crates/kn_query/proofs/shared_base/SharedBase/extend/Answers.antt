@@ -113,25 +113,29 @@ returns c =
     let longer : c.in_ok-base.base.live ≡ flags ++ replicate (length more) true =
     c.in_ok-base.ensures.live ∙ ap (λ (k : ℕ). flags ++ replicate k true) count in
     record {
-      number = c.number-number.ensures.number;
-      has_rows = record {
-        of = subst (λ (ps : List Part). IsBaseOf ps c.in_ok-base.base.names c.in_ok-base.base.system) whole
-            (c.in_ok-base.ensures.base (parts_of Shared rows) lacks.has_rows.of);
-        flags = omega (
-          arith,
-          ap length longer,
-          length-append flags (replicate (length more) true),
-          length-replicate (length more) true,
-          lacks.has_rows.flags,
-          ap length all,
-          length-append rows more,
-        );
+      credentials = record {
+        number = c.number-number.ensures.number;
+        has_rows = record {
+          of = subst (λ (ps : List Part). IsBaseOf ps c.in_ok-base.base.names c.in_ok-base.base.system) whole
+              (c.in_ok-base.ensures.base (parts_of Shared rows) lacks.has_rows.of);
+          flags = omega (
+            arith,
+            ap length longer,
+            length-append flags (replicate (length more) true),
+            length-replicate (length more) true,
+            lacks.has_rows.flags,
+            ap length all,
+            length-append rows more,
+          );
+        };
+        live = ap (λ (l : List NumberedText). live_credentials l c.in_ok-base.base.live) all
+            ∙ ap (live_credentials (rows ++ more)) longer
+            ∙ live-both rows more flags lacks.has_rows.flags ∙ sym lacks.live;
+        newest = subst (AreUpTo most) (sym all)
+            (all-both (λ x. x.id ≤ most) rows more
+            (up_to-more (additions (all_changes (take n version))) most rows (additions-grow version n) lacks.newest)
+            (newer-up_to version n c.number-number.ensures.valid));
+        steady = c.at.ensures.steady version c.number-number.ensures.number;
       };
-      live = ap (λ (l : List NumberedText). live_credentials l c.in_ok-base.base.live) all
-          ∙ ap (live_credentials (rows ++ more)) longer
-          ∙ live-both rows more flags lacks.has_rows.flags ∙ sym lacks.live;
-      newest = subst (AreUpTo most) (sym all)
-          (all-both (λ x. x.id ≤ most) rows more
-          (up_to-more (additions (all_changes (take n version))) most rows (additions-grow version n) lacks.newest)
-          (newer-up_to version n c.number-number.ensures.valid));
+      goes_on = record { more = more; rows = all; live = longer };
     }

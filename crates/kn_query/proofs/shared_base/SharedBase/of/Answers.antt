@@ -46,7 +46,7 @@ returns c =
     let few_nodes = in-some _ _ _ c.in-Some.is c.in_ok-base.ensures.few_nodes in
     record {
       credentials = record {
-        number = c.number.ensures.number;
+        number = c.number-number.ensures.number;
         has_rows = record {
           of = subst (λ (ps : List Part). IsBaseOf ps c.in-Some.base.names c.in-Some.base.system) (whole
               ∙ ap (parts_of Shared) (sym rows)) (in-some _ _ _ c.in-Some.is c.in_ok-base.ensures.base);
@@ -57,7 +57,8 @@ returns c =
             ∙ ap (live_credentials live) (all ∙ ap (λ (n : ℕ). replicate n true) count)
             ∙ live-everything live;
         newest = subst (AreUpTo (additions (all_changes version))) (sym rows)
-            (ids-up_to version c.number.ensures.valid);
+            (ids-up_to version c.number-number.ensures.valid);
+        steady = c.at.ensures.steady version c.number-number.ensures.number;
       };
       few_names = omega (arith, total, size, few_names, c.len-live.ensures.bytes_limit);
       few_nodes = omega (arith, total, size, few_nodes, c.len-live.ensures.bytes_limit);
