@@ -2,32 +2,31 @@
 -- keynote(3)). Requests are known by their shape, and each shape has its cases in `own_refusal`, `placed_refusal`,
 -- `state_after`, `Answers` and `may_lack_memory`.
 use Rattle.std.specs.Prelude.{ℕ, ◌≡◌, ◌+◌, ◌≤◌, Bool, true, false, ◌==◌, ◌&&◌, not, nat_lt, List, [], ◌∷◌, ◌++◌, length}
-use Rattle.std.specs.Prelude.{map, flat_map, slice_index_or, Option, Some, None, option_map, option_and_then, is_none}
+use Rattle.std.specs.Prelude.{map, slice_index_or, Option, Some, None, option_map, option_and_then, is_none}
 use Rattle.std.specs.Prelude.{IsSome, IsSomeAnd, Result, Ok, Err, if◌then◌else◌}
 use Rattle.std.specs.Option.{option_or}
 use Rattle.std.specs.Str.{bytes_eq}
 use Rattle.kn_base.specs.declared.limits.TheConstants.{CRITICAL_NODES}
-use Rattle.kn_env.specs.Environment.{Asked}
 use Rattle.kn_env.specs.Values.{values_of}
 use Rattle.kn_trees.specs.declared.assertion.Assertion.{Assertion}
-use Rattle.kn_assert.specs.Reading.{reading_of, assertion_of}
+use Rattle.kn_assert.specs.Reading.{reading_of}
 use Rattle.kn_fields.specs.Numbers.{fault_number, fault_place}
 use Rattle.kn_fields.specs.declared.fault.ReadFault.{ReadFault}
 use Rattle.kn_proof.specs.declared.named.Id.{Id}
-use Rattle.kn_proof.specs.declared.named.Id.TheVariants.{Shared, Private}
 use Rattle.kn_proof.specs.declared.named.NamedRow.{NamedRow}
 use Rattle.kn_meaning.specs.Critical.{AreCritical, equation_nodes}
-use Rattle.kn_meaning.specs.Equations.{Equations, Part, equations_over, IsPolicyLevel}
+use Rattle.kn_meaning.specs.Equations.{IsPolicyLevel}
 use Rattle.kn_meaning.specs.Proofs.{IsProof}
 use Rattle.kn_history.specs.declared.update.Update.{Update}
 use Rattle.kn_history.specs.declared.item.Item.{Item}
 use Rattle.kn_history.specs.declared.fault.StoreFault.{StoreFault}
 use Rattle.kn_history.specs.declared.fault.StoreFault.TheVariants as U
-use Rattle.kn_history.specs.History.{NumberedText, all_changes, additions, credentials_of}
+use Rattle.kn_history.specs.History.{all_changes, additions}
 use Rattle.kn_history.specs.History.{refusal_of_text as fault_of_addition, refusal_of_id as fault_of_removal}
 use Rattle.kn_history.specs.History.{update_may_follow, addition_by, removal_by}
 use Rattle.kn_history.specs.Batches.{refusal_of_items, numbered_from, batch_by}
 use Rattle.kn_history.specs.Retained.{retained_version}
+pub use Rattle.kn_session.specs.Asking.{part_by, parts_of, session_parts, asked_of, equations_of}
 use Rattle.kn_session.specs.declared.fault.SessionFault.{SessionFault}
 use Rattle.kn_session.specs.declared.fault.SessionFault.TheVariants as S
 use Rattle.kn_session.specs.declared.fault.CallFault.{CallFault}
@@ -76,27 +75,6 @@ session_of state s = session_in state.sessions s
 -- the session of this number, changed
 abbrev pub with_session : State → ℕ → (Session → Session) → State
 with_session state s change = record state { sessions = with_changed state.sessions s change }
-
--- What a session asks.
-
-abbrev pub part_by : (ℕ → Id) → ℕ → Option Assertion → List Part
-part_by name id (Some a) = record { id = name id; assertion = a } ∷ []
-part_by name id None = []
-
--- the assertions of texts, each under the id of its text
-abbrev pub parts_of : (ℕ → Id) → List NumberedText → List Part
-parts_of name texts = flat_map (λ c. part_by name c.id (assertion_of c.text)) texts
-
--- the credentials of the version that a session is pinned to, and then its own
-abbrev pub session_parts : Session → List Part
-session_parts session = parts_of Shared (credentials_of session.pinned) ++ parts_of Private session.privates
-
-abbrev pub asked_of : Session → List (List ℕ) → Asked
-asked_of session values = record { attributes = session.attributes; values = values; requesters = session.requesters }
-
--- what a session asks where these are the values
-abbrev pub equations_of : Session → List (List ℕ) → Equations
-equations_of session values = equations_over (asked_of session values) (session_parts session)
 
 -- Refusals by the state alone: of each request the first that applies.
 

@@ -111,7 +111,7 @@ fn move_standing(book: &Book, sessions: &mut Sessions, s: u32) -> Result<(), NoM
     let Ok(newest) = book.snapshot().clone() else {
         return Err(NoMemory);
     };
-    let _moved = sessions.move_standing(s, newest);
+    let _moved = sessions.move_standing(s, newest, None);
     Ok(())
 }
 
@@ -121,7 +121,7 @@ fn watch(alloc: Global, sessions: &mut Sessions, s: u32, names: &[u8]) -> Result
         → OnOk result (state_of_sessions sessions.new ≡ applied history sessions.old (Asks ToKeep s names.now)) }
 {
     match read_query(alloc, sessions, s, names)? {
-        Some(asked) => match sessions.watch(s, asked.values) {
+        Some(asked) => match sessions.watch(s, asked.values, None) {
             Ok(()) => Ok(()),
             Err(fault) => pass_refusal(fault),
         },

@@ -1,9 +1,10 @@
--- The fields that an open session is kept in.
+-- The fields that an open session and a standing query are kept in.
 use Rattle.std.specs.Prelude.{map}
 use Rattle.std.specs.Arc.{arc_value}
-use Rattle.kn_session.specs.Sessions.{Session}
+use Rattle.kn_session.specs.Sessions.{StandingQuery, Session}
 use Rattle.kn_session.specs.Views.{numbered_text}
 use Rattle.kn_session.specs.declared.session.OpenSession.TheInside.{Inside}
+use Rattle.kn_session.specs.declared.standing.StandingQuery.TheInside.{Inside as StandingInside}
 
 abbrev pub session_of_fields : Inside → Session
 session_of_fields s = record {
@@ -14,4 +15,13 @@ session_of_fields s = record {
   attributes = s.attributes;
   requesters = s.requesters;
   standing = s.standing;
+}
+
+abbrev pub query_of_fields : StandingInside → StandingQuery
+query_of_fields q = record {
+  pinned = arc_value q.snapshot;
+  privates = map numbered_text q.private;
+  attributes = q.attributes;
+  requesters = q.requesters;
+  values = q.values;
 }

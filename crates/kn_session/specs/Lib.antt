@@ -1,5 +1,6 @@
 pub mod Sessions
 pub mod Calls
+pub mod Asking
 pub mod Views
 pub mod Fields
 pub mod Connection

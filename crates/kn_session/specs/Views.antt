@@ -1,5 +1,5 @@
 -- What a view of a session shows, and what holds of it (keynoted's own).
-use Rattle.std.specs.Prelude.{ℕ, ◌≡◌, ◌≤◌, List, map, length, nat_eq, Some, option_map}
+use Rattle.std.specs.Prelude.{ℕ, ◌≡◌, ◌≤◌, List, map, length, nat_eq, Option, Some, option_map}
 use Rattle.std.specs.List.{AllByRecursion, IsDistinct}
 use Rattle.std.specs.Str.{bytes_eq}
 use Rattle.std.specs.Arc.{arc_value}
@@ -8,7 +8,8 @@ use Rattle.kn_principal.specs.Principals.{normal_form}
 use Rattle.kn_env.specs.Environment.{AreRequesters}
 use Rattle.kn_assert.specs.Reading.{assertion_of}
 use Rattle.kn_history.specs.History.{NumberedText, text_bytes}
-use Rattle.kn_session.specs.Sessions.{Session}
+use Rattle.kn_session.specs.Sessions.{StandingQuery, Session}
+use Rattle.kn_session.specs.Asking.{IsQueryLevelIfKnown}
 use Rattle.kn_session.specs.declared.view.Private.{Private}
 use Rattle.kn_session.specs.declared.view.View.{View}
 
@@ -60,11 +61,13 @@ pub record IsSession (x : Session) : Type 0 where
   pub requesters : AreRequesters x.requesters
   pub forms : AreNormalForms x.requesters
 
--- what is copied for a standing query: private assertions that are readings of their texts, and requesters
-pub record AreStandingParts (copies : List Private) (principals : List (List ℕ)) : Type 0 where
+-- A standing query is kept with copies of private assertions that are readings of their texts, and with its value, if
+-- that is known.
+pub record IsStanding (copies : List Private) (level : Option ℕ) (query : StandingQuery) : Type 0 where
   pub readings : AreReadPrivates copies
-  pub privates : ArePrivates (map numbered_text copies)
-  pub requesters : AreRequesters principals
+  pub privates : ArePrivates query.privates
+  pub requesters : AreRequesters query.requesters
+  pub value : IsQueryLevelIfKnown query level
 
 -- A session is kept with its private assertions and the count of their bytes.
 pub record IsKept (privates : List Private) (count : ℕ) (x : Session) : Type 0 where

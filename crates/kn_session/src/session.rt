@@ -1,12 +1,13 @@
 //! One open session.
 ghost use Rattle.std.specs.Prelude.{◌≡◌, ◌⊎◌, ◌<◌, ◌+◌, ◌^◌, true, false, ◌==◌, bytes_eq, length, remove};
 ghost use Rattle.std.specs.Prelude.{slice_get, option_map, position, Some, None, IfOk, IfErr, OnOk, OnErr};
-ghost use Rattle.std.specs.Option.{option_copied};
+ghost use Rattle.std.specs.Option.{ForSome, option_copied};
 ghost use Rattle.std.specs.Arc.{arc_value};
 ghost use Rattle.kn_principal.specs.Principals.{normal_form};
 ghost use Rattle.kn_assert.specs.Reading.{assertion_of};
 ghost use Rattle.kn_session.specs.Sessions.{started_session, pin_at};
-ghost use Rattle.kn_session.specs.Sessions.{standing_fault, watch_with, move_standing, end_standing};
+ghost use Rattle.kn_session.specs.Sessions.{standing_fault, watch_with, query_at, move_standing, end_standing};
+ghost use Rattle.kn_session.specs.Asking.{IsLevelIfKnown, IsQueryLevelIfKnown};
 ghost use Rattle.kn_session.specs.Calls.{private_fault, retract_fault, set_fault, unset_fault, auth_fault};
 ghost use Rattle.kn_session.specs.Calls.{unauth_fault, fault_of_attribute, is_principal, is_named, cleared};
 ghost use Rattle.kn_session.specs.Calls.{add_private, take_private, set_attribute, unset_attribute};
@@ -106,13 +107,20 @@ impl OpenSession {
         self.standing.as_ref()
     }
 
-    /// Keeps what the session asks with, and these compliance values, as its standing query.
-    pub(crate) fn watch(&mut self, alloc: Global, values: Values) -> Result<(), SessionFault>
+    /// Keeps what the session asks with, and these compliance values, as its standing query. The index of its value may
+    /// be known.
+    pub(crate) fn watch(
+        &mut self,
+        alloc: Global,
+        values: Values,
+        level: Option<u8>,
+    ) -> Result<(), SessionFault>
+        requires level { IsLevelIfKnown self.old values level }
         ensures ok { OnOk result (self.new ≡ watch_with values self.old) }
         ensures err { OnErr result (self.new ≡ self.old) }
         ensures fault { IfErr result (λ fault. fault ≡ F.NoMemory) }
     {
-        match StandingQuery::of(alloc, &self.view(), values) {
+        match StandingQuery::of(alloc, &self.view(), values, level) {
             Ok(query) => {
                 self.standing = Some(query);
                 Ok(())
@@ -121,8 +129,14 @@ impl OpenSession {
         }
     }
 
-    /// Moves the standing query to a version.
-    pub(crate) fn move_standing(&mut self, snapshot: Snapshot) -> Result<(), SessionFault>
+    /// Moves the standing query to a version. The index of its value there may be known.
+    pub(crate) fn move_standing(
+        &mut self,
+        snapshot: Snapshot,
+        level: Option<u8>,
+    ) -> Result<(), SessionFault>
+        requires level { ForSome self.old.standing (λ query.
+            IsQueryLevelIfKnown (query_at (arc_value snapshot) query) level) }
         ensures accepted { OnOk result (standing_fault self.old ≡ None) }
         ensures ok { OnOk result (self.new ≡ move_standing (arc_value snapshot) self.old) }
         ensures err { OnErr result (self.new ≡ self.old) }
@@ -130,7 +144,7 @@ impl OpenSession {
     {
         match &mut self.standing {
             Some(query) => {
-                query.move_to(snapshot);
+                query.move_to(snapshot, level);
                 Ok(())
             }
             None => Err(SessionFault::Absent),

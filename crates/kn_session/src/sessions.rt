@@ -6,7 +6,9 @@ ghost use Rattle.std.specs.Arc.{arc_value};
 ghost use Rattle.kn_env.specs.Environment.{AreRequesters};
 ghost use Rattle.kn_assert.specs.Reading.{assertion_of};
 ghost use Rattle.kn_session.specs.Sessions.{Session, session_in, with_started, start_fault, pin_at};
-ghost use Rattle.kn_session.specs.Sessions.{watch_with, move_standing, standing_fault, end_standing};
+ghost use Rattle.kn_session.specs.Sessions.{watch_with, query_at, move_standing, standing_fault, end_standing};
+ghost use Rattle.kn_session.specs.Asking.{IsLevelIfKnown, IsQueryLevelIfKnown};
+ghost use Rattle.kn_session.specs.Laws.{standing_in};
 ghost use Rattle.kn_session.specs.Calls.{private_fault, retract_fault, set_fault, unset_fault, auth_fault};
 ghost use Rattle.kn_session.specs.Calls.{unauth_fault, add_private, take_private, set_attribute, unset_attribute};
 ghost use Rattle.kn_session.specs.Calls.{add_requester, take_requester, cleared, answer_done};
@@ -248,7 +250,9 @@ impl Sessions {
     }
 
     /// Keeps what a session asks with, and these compliance values, as its standing query, in place of an earlier one.
-    pub fn watch(&mut self, s: u32, values: Values) -> Result<(), SessionFault>
+    /// The index of its value over the session's version may be known.
+    pub fn watch(&mut self, s: u32, values: Values, level: Option<u8>) -> Result<(), SessionFault>
+        requires level { ForSome (session_in self.old.sessions s) (λ session. IsLevelIfKnown session values level) }
         ensures accepted { OnOk result (fault_at self.old s (λ x. None) ≡ None) }
         ensures ok { OnOk result (self.new ≡ with_open_session self.old s (watch_with values)) }
         ensures err { OnErr result (self.new ≡ self.old) }
@@ -257,7 +261,7 @@ impl Sessions {
         let i = self.place(s)?;
         let alloc = self.alloc;
         let session = &mut self.sessions[i];
-        session.watch(alloc, values)
+        session.watch(alloc, values, level)
     }
 
     /// The standing query of a session. Takes no memory.
@@ -274,8 +278,16 @@ impl Sessions {
         }
     }
 
-    /// Moves the standing query of a session to another version. Takes no memory.
-    pub fn move_standing(&mut self, s: u32, snapshot: Snapshot) -> Result<(), SessionFault>
+    /// Moves the standing query of a session to another version. The index of its value there may be known. Takes no
+    /// memory.
+    pub fn move_standing(
+        &mut self,
+        s: u32,
+        snapshot: Snapshot,
+        level: Option<u8>,
+    ) -> Result<(), SessionFault>
+        requires level { ForSome (standing_in self.old.sessions s) (λ query.
+            IsQueryLevelIfKnown (query_at (arc_value snapshot) query) level) }
         ensures accepted { OnOk result (fault_at self.old s standing_fault ≡ None) }
         ensures ok { OnOk result (self.new ≡ with_open_session self.old s (move_standing (arc_value snapshot))) }
         ensures err { OnErr result (self.new ≡ self.old) }
@@ -283,7 +295,7 @@ impl Sessions {
     {
         let i = self.place(s)?;
         let session = &mut self.sessions[i];
-        session.move_standing(snapshot)
+        session.move_standing(snapshot, level)
     }
 
     /// Ends the standing query of a session. Takes no memory.

@@ -1,8 +1,9 @@
 //! The standing query of a session.
-ghost use Rattle.std.specs.Prelude.{◌≡◌, IfOk};
+ghost use Rattle.std.specs.Prelude.{◌≡◌, length, IfOk};
 ghost use Rattle.std.specs.Arc.{arc_value};
 ghost use Rattle.kn_env.specs.Environment.{AreRequesters};
 ghost use Rattle.kn_session.specs.Sessions.{query_with, query_at, asker};
+ghost use Rattle.kn_session.specs.Asking.{IsLevelIfKnown, IsQueryLevelIfKnown};
 ghost use Rattle.kn_session.specs.Views.{AreReadPrivates};
 
 use crate::view::{Private, View};
@@ -21,39 +22,37 @@ pub struct StandingQuery {
     attributes: Attributes,
     requesters: List<Octets>,
     values: Values,
+    /// The index of the query's value over its version, where it is known.
+    level: Option<u8>,
 }
 
 impl Model for StandingQuery {
-    ghost use Rattle.std.specs.Prelude.{map};
-    ghost use Rattle.std.specs.Arc.{arc_value};
     ghost use Rattle.kn_session.specs.Sessions.{StandingQuery};
 
     ghost Value = { StandingQuery };
 
-    ghost use Rattle.kn_session.specs.Views.{numbered_text, AreStandingParts};
+    ghost use Rattle.kn_session.specs.Fields.{query_of_fields};
+    ghost use Rattle.kn_session.specs.Views.{IsStanding};
 
-    ghost view = { λ q. record {
-      pinned = arc_value q.snapshot;
-      privates = map numbered_text q.private;
-      attributes = q.attributes;
-      requesters = q.requesters;
-      values = q.values;
-    } };
+    ghost view = { query_of_fields };
 
-    ghost invariant = { λ q. AreStandingParts q.private q.requesters };
+    ghost invariant = { λ q. IsStanding q.private q.level (query_of_fields q) };
 }
 
 impl StandingQuery {
     ghost use Rattle.kn_session.specs.Views.{session_of_view, ArePrivates, IsSession};
 
-    /// What a session asks with, and these compliance values. `NoMemory` comes only when memory runs out.
+    /// What a session asks with, and these compliance values. The index of its value may be known. `NoMemory` comes
+    /// only when memory runs out.
     pub(crate) fn of(
         alloc: Global,
         view: &View<'_>,
         values: Values,
+        level: Option<u8>,
     ) -> Result<StandingQuery, NoMemory>
         requires readings { AreReadPrivates view.now.private.now }
         requires session { IsSession (session_of_view view.now) }
+        requires level { IsLevelIfKnown (session_of_view view.now) values level }
         ensures { IfOk result (λ query. query ≡ query_with values (session_of_view view.now)) }
     {
         let Ok(snapshot) = view.snapshot.clone() else {
@@ -65,6 +64,7 @@ impl StandingQuery {
             attributes: view.attributes.copy()?,
             requesters: copy_requesters(alloc, view.requesters)?,
             values,
+            level,
         })
     }
 
@@ -73,6 +73,20 @@ impl StandingQuery {
         ensures { result.now ≡ self.now.values }
     {
         &self.values
+    }
+
+    /// The index of the query's value over its version, where it is known.
+    pub fn level(&self) -> Option<u8>
+        ensures { IsQueryLevelIfKnown self.now result }
+    {
+        self.level
+    }
+
+    /// The number of the query's version.
+    pub fn number(&self) -> u32
+        ensures { result ≡ length self.now.pinned }
+    {
+        self.snapshot.number()
     }
 
     /// What the query asks over a version.
@@ -93,11 +107,13 @@ impl StandingQuery {
         }
     }
 
-    /// Asks over this version from here on.
-    pub(crate) fn move_to(&mut self, snapshot: Snapshot)
+    /// Asks over this version from here on. The index of its value there may be known.
+    pub(crate) fn move_to(&mut self, snapshot: Snapshot, level: Option<u8>)
+        requires level { IsQueryLevelIfKnown (query_at (arc_value snapshot) self.old) level }
         ensures { self.new ≡ query_at (arc_value snapshot) self.old }
     {
         self.snapshot = snapshot;
+        self.level = level;
     }
 }
 
