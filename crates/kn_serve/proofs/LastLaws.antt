@@ -18,6 +18,7 @@ use Rattle.kn_serve.specs.Handling.{Moment, Handles}
 use Rattle.kn_serve.specs.KeptBases.{IsFirstOf, ArePinned}
 use Rattle.kn_serve.specs.LastQuestions.{LastAsked, IsRight, IsStillRight, IsLastOf, IsRightAgain}
 use Rattle.kn_serve.specs.LastQuestions.{IsAnswerTo, IsKeptFor, Takes, at_version, may_keep_answer}
+use Rattle.kn_serve.proofs.PinnedLaws.{first-fewer}
 
 abbrev Values : Type 0
 Values = List (List ℕ)
@@ -186,12 +187,7 @@ right-again state history last pinned is = λ session values answer vs a found a
     let one : IsStillRight history state values answer =
     subst (λ (o : Option LastAnswer). IfSome o (IsStillRight history state values)) a still in
     subst (λ (x : Session). IsRight x values answer.answer)
-    (at-own history session answer.version (pinned answer.s session found) at) (one.right session found)
-
-taken-fewer : (n : ℕ) (xs : List Update) → length (take n xs) ≤ length xs
-taken-fewer zero xs = omega arith
-taken-fewer (suc n) [] = omega arith
-taken-fewer (suc n) (x ∷ xs) = omega (arith, taken-fewer n xs)
+    (at-own history session answer.version (pinned answer.s session found).pin at) (one.right session found)
 
 -- an answer that was just found is right
 pub last-found : (state : State) (last : LastAsked) (s version : ℕ) (session : Session) (values : Values)
@@ -201,10 +197,8 @@ pub last-found : (state : State) (last : LastAsked) (s version : ℕ) (session :
 last-found state last s version session values answer found at right (inl none) history pinned =
     none-last history state last none
 last-found state last s version session values answer found at right (inr (vs, a)) history pinned =
-    let first : IsFirstOf session.pinned history = pinned s session found in
-    let fewer : length session.pinned ≤ length history =
-    subst (λ (u : List Update). length u ≤ length history) (sym first)
-    (taken-fewer (length session.pinned) history) in
+    let first : IsFirstOf session.pinned history = (pinned s session found).pin in
+    let fewer : length session.pinned ≤ length history = first-fewer session.pinned history first in
     let still : IsStillRight history state values (record { s = s; version = version; answer = answer }) = record {
       seen = subst (λ (n : ℕ). n ≤ length history) (sym at) fewer;
       right = λ other there.

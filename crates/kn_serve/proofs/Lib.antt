@@ -11,6 +11,7 @@ pub mod CompletenessLaws
 pub mod OpeningLaws
 pub mod QueryingLaws
 pub mod WatchingLaws
+pub mod KnownLaws
 pub mod ChangingLaws
 pub mod AdmissionLaws
 pub mod BatchLaws

@@ -1,14 +1,16 @@
--- The open sessions are pinned to first parts of the one history.
+-- The open sessions are pinned to first parts of the one history, and their standing queries are over such parts.
 use Rattle.std.proofs.Common.{◌≡◌, ℕ, zero, suc, ◌+◌, Bool, true, false, cond, ◌==◌, not, List, [], ◌∷◌, ◌++◌, length}
-use Rattle.std.proofs.Common.{map, filter}
-use Rattle.std.proofs.Common.{find, take, Option, Some, None, refl, sym, ap, ◌∙◌, subst}
+use Rattle.std.proofs.Common.{◌≤◌, map, filter, find, take, Option, Some, None, refl, sym, ap, ◌∙◌, subst, arith}
+use Rattle.std.specs.Prelude.{IfSome, option_map}
+use Rattle.std.proofs.lemmas.List.{length-take, take-append-le}
 use Rattle.std.specs.List.{AllByRecursion}
 use Rattle.kn_history.specs.declared.update.Update.{Update}
 use Rattle.kn_history.specs.Retained.{is_retained, retained_version}
 use Rattle.kn_env.specs.Values.{values_of}
 use Rattle.kn_principal.specs.Principals.{normal_form}
-use Rattle.kn_session.specs.Sessions.{Session, with_changed, started_session, pin_at, watch_with, move_standing}
-use Rattle.kn_session.specs.Calls.{Call, Close, Auth, after_call, call_change, is_named, add_requester}
+use Rattle.kn_session.specs.Sessions.{Session, StandingQuery, with_changed, started_session, pin_at, watch_with}
+use Rattle.kn_session.specs.Sessions.{move_standing, query_at}
+use Rattle.kn_session.specs.Calls.{Call, Close, Auth, Unwatch, after_call, call_change, is_named, add_requester}
 use Rattle.kn_reply.specs.Replies.{Reply, Done, Started, Number, PrivateAdded, Added, Value, Batched, PinnedAt, Log}
 use Rattle.kn_reply.specs.Replies.{News, Critical, No, NoMemory}
 use Rattle.kn_wire.specs.Feeding.{Held}
@@ -20,10 +22,25 @@ use Rattle.kn_daemon.specs.Daemon.{state_after_question}
 use Rattle.kn_daemon.specs.Daemon.{state_after_control, state_after, Does, Permits}
 use Rattle.kn_daemon.specs.Linearized.{Exchange, Along}
 use Rattle.kn_daemon.specs.Underway.{IsUnderway}
-use Rattle.kn_serve.specs.KeptBases.{IsFirstOf, ArePinned}
+use Rattle.kn_serve.specs.KeptBases.{IsFirstOf, IsPinned, ArePinned}
 
-abbrev IsPinned : List Update → Session → Type 0
-IsPinned h x = (n : ℕ) × (x.pinned ≡ take n h)
+taken-so : (n : ℕ) (h : List Update) → IsFirstOf (take n h) h
+taken-so zero h = refl
+taken-so (suc n) [] = refl
+taken-so (suc n) (x ∷ h) = ap (λ l. x ∷ l) (taken-so n h)
+
+first-part : (h xs : List Update) (n : ℕ) → xs ≡ take n h → IsFirstOf xs h
+first-part h xs n e = subst (λ ys. IsFirstOf ys h) (sym e) (taken-so n h)
+
+-- a first part is no longer, and stays one while the history grows
+pub first-fewer : (version history : List Update) → IsFirstOf version history → length version ≤ length history
+first-fewer version history first =
+    omega (arith, ap (λ (u : List Update). length u) first, length-take (length version) history)
+
+pub first-grown : (version history more : List Update) → IsFirstOf version history
+    → IsFirstOf version (history ++ more)
+first-grown version history more first =
+    first ∙ sym (take-append-le (length version) history more (first-fewer version history first))
 
 abbrev AllPinned : List Update → List Session → Type 0
 AllPinned h sessions = AllByRecursion (IsPinned h) sessions
@@ -60,13 +77,16 @@ requester-pinned h text x is = by (is_named x.requesters text)
   where
     by : (t : Bool) → IsPinned h (cond t x (record x { requesters = x.requesters ++ normal_form text ∷ [] }))
     by true = is
-    by false = is
+    by false = record { pin = is.pin; standing = is.standing }
 
 pinned-call : (h : List Update) (xs : List Session) (s : ℕ) (call : Call) → AllPinned h xs
     → AllPinned h (after_call xs s call)
 pinned-call h xs s Close are = pinned-filter (λ x. not (x.number == s)) h xs are
 pinned-call h xs s (Auth text) are = pinned-change h xs s (call_change (Auth text)) (requester-pinned h text) are
-pinned-call h xs s call are = pinned-change h xs s (call_change call) (λ x is. is) are
+pinned-call h xs s Unwatch are =
+    pinned-change h xs s (call_change Unwatch) (λ x is. record { pin = is.pin; standing = tt }) are
+pinned-call h xs s call are =
+    pinned-change h xs s (call_change call) (λ x is. record { pin = is.pin; standing = is.standing }) are
 
 -- a first part of a first part is one
 taken-twice : (m n : ℕ) (h : List Update) → (k : ℕ) × (take m (take n h) ≡ take k h)
@@ -77,38 +97,50 @@ taken-twice (suc m) (suc n) (x ∷ h) = let rest = taken-twice m n h in (suc res
 
 retained-part : (h : List Update) (n number : ℕ) (version : List Update)
     → retained_version (take n h) number ≡ Some version
-    → (k : ℕ) × (version ≡ take k h)
+    → IsFirstOf version h
 retained-part h n number version e = by (is_retained (length (take n h)) number) e
   where
-    by : (b : Bool) → cond b (Some (take number (take n h))) None ≡ Some version → (k : ℕ) × (version ≡ take k h)
+    by : (b : Bool) → cond b (Some (take number (take n h))) None ≡ Some version → IsFirstOf version h
     by true at =
         let same : take number (take n h) ≡ version = cc in
         let part = taken-twice number n h in
-        (part.0, sym same ∙ part.1)
+        first-part h version part.0 (sym same ∙ part.1)
     by false at = absurd (cc)
 
 pinned-retained : (h : List Update) (state : State) (s : ℕ) (found : Option (List Update))
-    → ((version : List Update) → found ≡ Some version → (k : ℕ) × (version ≡ take k h)) → AllPinned h state.sessions
+    → ((version : List Update) → found ≡ Some version → IsFirstOf version h) → AllPinned h state.sessions
     → AllPinned h (pinned_to state s found).sessions
 pinned-retained h state s None each are = are
 pinned-retained h state s (Some version) each are =
-    pinned-change h state.sessions s (pin_at version) (λ x is. each version refl) are
+    pinned-change h state.sessions s (pin_at version)
+    (λ x is. record { pin = each version refl; standing = is.standing }) are
+
+-- a standing query that is moved
+moved-pinned : (h : List Update) (n : ℕ) (standing : Option StandingQuery)
+    → IfSome (option_map (query_at (take n h)) standing) (λ query. IsFirstOf query.pinned h)
+moved-pinned h n None = tt
+moved-pinned h n (Some query) = taken-so n h
 
 pinned-looked : (h : List Update) (n : ℕ) (state : State) (look : Look) → AllPinned h state.sessions
     → AllPinned h (state_after_look (take n h) state look).sessions
 pinned-looked h n state ForNew are =
-    pinned-push h state.sessions (started_session (state.started + 1) (take n h)) are (n, refl)
-pinned-looked h n state (ForOpen s) are = pinned-change h state.sessions s (pin_at (take n h)) (λ x is. (n, refl)) are
+    pinned-push h state.sessions (started_session (state.started + 1) (take n h)) are
+    (record { pin = taken-so n h; standing = tt })
+pinned-looked h n state (ForOpen s) are =
+    pinned-change h state.sessions s (pin_at (take n h))
+    (λ x is. record { pin = taken-so n h; standing = is.standing }) are
 pinned-looked h n state (ForRetained s number) are =
     pinned-retained h state s (retained_version (take n h) number) (retained-part h n number) are
 pinned-looked h n state (ForStanding s) are =
-    pinned-change h state.sessions s (move_standing (take n h)) (λ x is. is) are
+    pinned-change h state.sessions s (move_standing (take n h))
+    (λ x is. record { pin = is.pin; standing = moved-pinned h n x.standing }) are
 pinned-looked h n state (ForLog m) are = are
 
 pinned-kept : (h : List Update) (state : State) (s : ℕ) (values : Option (List (List ℕ))) → AllPinned h state.sessions
     → AllPinned h (state_keeping state s values).sessions
 pinned-kept h state s None are = are
-pinned-kept h state s (Some values) are = pinned-change h state.sessions s (watch_with values) (λ x is. is) are
+pinned-kept h state s (Some values) are =
+    pinned-change h state.sessions s (watch_with values) (λ x is. record { pin = is.pin; standing = is.pin }) are
 
 pinned-questioned : (h : List Update) (state : State) (question : Question) (s : ℕ) (names : List ℕ)
     → AllPinned h state.sessions
@@ -172,14 +204,6 @@ found-pinned h s (x ∷ xs) session are e = by (x.number == s) e (found-pinned h
     by true at rest = let same : x ≡ session = cc in subst (IsPinned h) same are.0
     by false at rest = rest at
 
-taken-so : (n : ℕ) (h : List Update) → IsFirstOf (take n h) h
-taken-so zero h = refl
-taken-so (suc n) [] = refl
-taken-so (suc n) (x ∷ h) = ap (λ l. x ∷ l) (taken-so n h)
-
-first-part : (h xs : List Update) (n : ℕ) → xs ≡ take n h → IsFirstOf xs h
-first-part h xs n e = subst (λ ys. IsFirstOf ys h) (sym e) (taken-so n h)
-
 pub underway-pinned : (g : DaemonConfig) (taken written : List ℕ) (history : List Update) (start caller : ℕ)
     (stops : List ℕ)
     (state : State) (held : Held) (answered : ℕ)
@@ -187,5 +211,4 @@ pub underway-pinned : (g : DaemonConfig) (taken written : List ℕ) (history : L
 underway-pinned g taken written history start caller stops state held answered u = λ s session found.
     let all : AllPinned history state.sessions =
     pinned-along history g caller first_state u.exchanges state tt u.replies in
-    let one : IsPinned history session = found-pinned history s state.sessions session all found in
-    first-part history session.pinned one.0 one.1
+    found-pinned history s state.sessions session all found

@@ -113,12 +113,12 @@ news_refused g whole now s l l' fault told why is prints =
     told_either g (asks_anew s) whole now l l' told refl (λ due e. ap refusal_by why ∙ sym is ∙ e) prints
 
 -- one is found, with the session that keeps it
-record IsFound (found : Option Session) (query : StandingQuery) : Type 0 where
-  session : Session
-  there : found ≡ Some session
-  standing : session.standing ≡ Some query
+pub record IsFound (found : Option Session) (query : StandingQuery) : Type 0 where
+  pub session : Session
+  pub there : found ≡ Some session
+  pub standing : session.standing ≡ Some query
 
-found_by : (found : Option Session) (query : StandingQuery) →
+pub found_by : (found : Option Session) (query : StandingQuery) →
     IsSomeAnd found (λ x. x.standing ≡ Some query) → IsFound found query
 found_by None query stands = absurd stands
 found_by (Some session) query stands = record { session = session; there = refl; standing = stands }
@@ -128,6 +128,15 @@ unrefused_by : (s : ℕ) (found : Option Session) (query : StandingQuery) →
     IsSomeAnd found (λ x. x.standing ≡ Some query) → refusal_by (fault_in s found standing_fault) ≡ None
 unrefused_by s None query stands = absurd stands
 unrefused_by s (Some session) query stands = rw stands refl
+
+-- the value of what was asked is the query's over that version
+pub asked_level : (query : StandingQuery) (made : List Update) (asking : Session) (values : List (List ℕ)) (level : ℕ) →
+    asking ≡ asker (query_at made query) → values ≡ query.values →
+    IsPolicyLevel (equations_of asking values) level →
+    IsPolicyLevel (equations_of (asker (query_at made query)) query.values) level
+asked_level query made asking values level asks kept_values least =
+    subst (λ (x : Session). IsPolicyLevel (equations_of x query.values) level) asks
+    (subst (λ (y : List (List ℕ)). IsPolicyLevel (equations_of asking y) level) kept_values least)
 
 module _ (g : DaemonConfig) (whole : Bool) (v w : PassSeen) (l l' : LinkSeen) (s : ℕ) (query : StandingQuery) where
   -- out of memory for the version
@@ -184,8 +193,7 @@ module _ (g : DaemonConfig) (whole : Bool) (v w : PassSeen) (l l' : LinkSeen) (s
       least_now : IsPolicyLevel (equations_of (asker (query_at w.seen query)) query.values) level
       least_now =
           subst (λ (u : List Update). IsPolicyLevel (equations_of (asker (query_at u query)) query.values) level) seen
-          (subst (λ (x : Session). IsPolicyLevel (equations_of x query.values) level) asks
-          (subst (λ (y : List (List ℕ)). IsPolicyLevel (equations_of asking y) level) kept_values least))
+          (asked_level query made asking values level asks kept_values least)
 
       next : state_with b is_admin ≡ with_session (state_with a is_admin) s (move_standing w.seen)
       next =

@@ -1,6 +1,6 @@
 -- The bases that are kept from one question to the next (keynoted's own). What the updates of a history made first is
 -- one version, which is known by its number.
-use Rattle.std.specs.Prelude.{ℕ, ◌≡◌, List, length, take, Some}
+use Rattle.std.specs.Prelude.{ℕ, ◌≡◌, List, length, take, Some, IfSome}
 use Rattle.kn_history.specs.declared.update.Update.{Update}
 use Rattle.kn_session.specs.Sessions.{Session}
 use Rattle.kn_daemon.specs.Daemon.{State, session_of}
@@ -12,10 +12,15 @@ use Rattle.kn_query.specs.SharedBases.{IsOfVersion}
 abbrev pub IsFirstOf : List Update → List Update → Type 0
 IsFirstOf version history = version ≡ take (length version) history
 
--- each open session is pinned to a version of this history
+-- a session is pinned to a version of this history, and its standing query is over one
+pub record IsPinned (history : List Update) (session : Session) : Type 0 where
+  pub pin : IsFirstOf session.pinned history
+  pub standing : IfSome session.standing (λ query. IsFirstOf query.pinned history)
+
+-- so is each open session
 abbrev pub ArePinned : List Update → State → Type 0
 ArePinned history state =
-    (s : ℕ) (session : Session) → session_of state s ≡ Some session → IsFirstOf session.pinned history
+    (s : ℕ) (session : Session) → session_of state s ≡ Some session → IsPinned history session
 
 -- each base that is kept is of that version of this history whose number it has
 abbrev pub IsKept : List Update → KeptBases → Type 0

@@ -1,19 +1,20 @@
 //! The standing query of a session: it is kept, and answered anew over the newest version.
-ghost use Rattle.std.specs.Prelude.{◌≡◌, ◌<◌, None, [], length, slice_index_or};
+ghost use Rattle.std.specs.Prelude.{◌≡◌, ◌<◌, None, Some, IfSome, [], length, slice_index_or};
 ghost use Rattle.kn_outside.specs.Printing.{Prints, is_whole};
 ghost use Rattle.kn_registry.specs.Passes.{IsReady};
+ghost use Rattle.kn_session.specs.Asking.{IsQueryLevelIfKnown};
 ghost use Rattle.kn_reply.specs.Replies.{News, reply_text};
 ghost use Rattle.kn_daemon.specs.Shapes.{Asks, Looks, ToKeep, ForStanding};
 ghost use Rattle.kn_daemon.specs.Daemon.{DaemonConfig};
 ghost use Rattle.kn_serve.specs.Handling.{moment, state_of, Handles, Tells};
-ghost use Rattle.kn_serve.specs.KeptBases.{AreAllOfOne, IsKept, StaysOf};
+ghost use Rattle.kn_serve.specs.KeptBases.{AreAllOfOne, ArePinned, IsKept, StaysOf};
 
 use crate::connection::Connection;
 use crate::querying::read_question;
 use crate::refusals::print_refusal;
 use kn_base::NoMemory;
 use kn_outside::{Failed, Link};
-use kn_query::{KeptBases, answer_query};
+use kn_query::{KeptBases, KnownLevel, answer_query, find_level};
 use kn_refusals::refusal_of_session;
 use kn_registry::{Pass, Registry};
 use kn_reply::{Reply, print};
@@ -46,7 +47,7 @@ pub(crate) fn watch<L: Link>(
         Err(NoMemory) => return print(&Reply::NoMemory, link),
     };
     let version = view.snapshot.number();
-    match connection.sessions.watch(s, values) {
+    match connection.sessions.watch(s, values, Some(answer.value)) {
         Ok(()) => {}
         Err(_) => return print(&Reply::NoMemory, link),
     }
@@ -69,6 +70,7 @@ pub(crate) fn news<R: Wait, L: Link>(
     link: &mut L,
 ) -> Result<(), Failed>
     requires ready { IsReady reg.now pass.old }
+    requires pinned { ArePinned pass.old.seen (state_of connection.old) }
     requires of_history { IsKept pass.old.seen kept.old }
     ensures ready { IsReady reg.now pass.new }
     ensures of_history { IsKept pass.new.seen kept.new }
@@ -86,15 +88,26 @@ pub(crate) fn news<R: Wait, L: Link>(
         Err(NoMemory) => return print(&Reply::NoMemory, link),
     };
     let view = query.view_over(&snapshot);
-    let answer = match answer_query(alloc, &view, query.values(), kept) {
-        Ok(answer) => answer,
+    let known = known_level(query);
+    let level = match find_level(alloc, &view, query.values(), known, kept) {
+        Ok(level) => level,
         Err(NoMemory) => return print(&Reply::NoMemory, link),
     };
-    let written = tell_news(query, answer.value, snapshot.number(), link);
-    match connection.sessions.move_standing(s, snapshot) {
+    let written = tell_news(query, level, snapshot.number(), link);
+    match connection.sessions.move_standing(s, snapshot, Some(level)) {
         Ok(()) => written,
         Err(_) => unreachable!(),
     }
+}
+
+/// The value of a standing query over its own version, where it is known.
+fn known_level(query: &StandingQuery) -> Option<KnownLevel>
+    ensures version { IfSome result (λ known. known.version ≡ length query.now.pinned) }
+    ensures level { IfSome result (λ known. IsQueryLevelIfKnown query.now (Some known.level)) }
+{
+    let level = query.level()?;
+    let version = query.number();
+    Some(KnownLevel { version, level })
 }
 
 /// Tells the value of a standing query by its index, over a version.

@@ -23,4 +23,4 @@ returns-clause-handled g c = λ g'.
     c.in-Ok-repin.ensures.accepted c.in-Ok-repin.ensures.ok c.print-in-Ok-repin.ensures
 
 pub pin_again-requires-clause-held : goal.pin_again-requires-clause-held
-pin_again-requires-clause-held g c = c.requires.pinned c.args.s _ c.in-Ok.ensures.session
+pin_again-requires-clause-held g c = (c.requires.pinned c.args.s _ c.in-Ok.ensures.session).pin

@@ -23,18 +23,18 @@ pub answer_query-requires-clause-of_history : goal.answer_query-requires-clause-
 answer_query-requires-clause-of_history g c =
     let all = c.requires.one_history in
     let session = session_of_view c.in-Ok.asked.0 in
-    kept-of_earlier session.pinned all.history c.args.kept.now (all.pinned c.args.s session c.in-Ok.ensures.session)
+    kept-of_earlier session.pinned all.history c.args.kept.now (all.pinned c.args.s session c.in-Ok.ensures.session).pin
     all.bases
 
 pub returns-in-Err-answer_query-clause-stays : goal.returns-in-Err-answer_query-clause-stays
 returns-in-Err-answer_query-clause-stays g c = λ history pinned is.
     kept-after (session_of_view c.in-Ok.asked.0).pinned history _ _
-    (pinned c.args.s (session_of_view c.in-Ok.asked.0) c.in-Ok.ensures.session) c.answer_query.ensures.of_version is
+    (pinned c.args.s (session_of_view c.in-Ok.asked.0) c.in-Ok.ensures.session).pin c.answer_query.ensures.of_version is
 
 pub returns-clause-stays : goal.returns-clause-stays
 returns-clause-stays g c = λ history pinned is.
     kept-after (session_of_view c.in-Ok.asked.0).pinned history _ _
-    (pinned c.args.s (session_of_view c.in-Ok.asked.0) c.in-Ok.ensures.session) c.answer_query.ensures.of_version is
+    (pinned c.args.s (session_of_view c.in-Ok.asked.0) c.in-Ok.ensures.session).pin c.answer_query.ensures.of_version is
 
 pub returns-clause-last : goal.returns-clause-last
 returns-clause-last g c = λ history pinned before.

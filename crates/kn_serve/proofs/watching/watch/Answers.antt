@@ -8,6 +8,7 @@ use Rattle.kn_serve.proofs.HandlingLaws.{told_memory}
 use Rattle.kn_serve.proofs.KeptLaws.{kept-after, kept-of_earlier}
 use Rattle.kn_serve.proofs.QueryingLaws.{question_refused}
 use Rattle.kn_serve.proofs.WatchingLaws.{kept_is, kept_stands, watch_unkept, watch_answered}
+use Rattle.kn_serve.proofs.KnownLaws.{kept_level}
 use Rattle.kn_serve.proofs.watching.watch.Goals as goal
 
 pub returns-in-Err : goal.returns-in-Err
@@ -23,7 +24,7 @@ returns-in-Err-answer_query g c = record {
   forgotten = c.forget.ensures;
   stays = λ history pinned is.
       kept-after (session_of_view c.in-Ok.asked.0).pinned history _ _
-      (pinned c.args.s (session_of_view c.in-Ok.asked.0) c.in-Ok.ensures.session) c.answer_query.ensures.of_version
+      (pinned c.args.s (session_of_view c.in-Ok.asked.0) c.in-Ok.ensures.session).pin c.answer_query.ensures.of_version
       is;
   exact = λ g'. told_memory g' (Asks ToKeep c.args.s c.args.names.now) _ (state_of c.args.connection.now) _ _ refl
       c.print.ensures;
@@ -34,7 +35,7 @@ returns-in-Err-watch g c = record {
   forgotten = c.forget.ensures;
   stays = λ history pinned is.
       kept-after (session_of_view c.in-Ok.asked.0).pinned history _ _
-      (pinned c.args.s (session_of_view c.in-Ok.asked.0) c.in-Ok.ensures.session) c.answer_query.ensures.of_version
+      (pinned c.args.s (session_of_view c.in-Ok.asked.0) c.in-Ok.ensures.session).pin c.answer_query.ensures.of_version
       is;
   exact = λ g'. watch_unkept g' _ c.args.connection.now.sessions c.watch.new.self c.args.connection.now.is_admin
       c.args.s c.args.names.now _ _ c.in-Err-watch.ensures.err c.print-in-Err-watch.ensures;
@@ -66,7 +67,7 @@ returns g c =
       forgotten = c.forget.ensures;
       stays = λ history pinned is.
           kept-after (session_of_view c.in-Ok.asked.0).pinned history _ _
-          (pinned c.args.s (session_of_view c.in-Ok.asked.0) c.in-Ok.ensures.session)
+          (pinned c.args.s (session_of_view c.in-Ok.asked.0) c.in-Ok.ensures.session).pin
           c.answer_query.ensures.of_version is;
       exact = λ g'. watch_answered g' _ a b c.args.connection.now.is_admin c.args.s c.args.names.now _ _ session
           c.in-Ok.asked.1 _ _ _ there c.in-Ok.ensures.named c.in-Ok-answer_query.ensures.least
@@ -79,5 +80,11 @@ pub answer_query-requires-clause-of_history : goal.answer_query-requires-clause-
 answer_query-requires-clause-of_history g c =
     let all = c.requires.one_history in
     let session = session_of_view c.in-Ok.asked.0 in
-    kept-of_earlier session.pinned all.history c.args.kept.now (all.pinned c.args.s session c.in-Ok.ensures.session)
+    kept-of_earlier session.pinned all.history c.args.kept.now (all.pinned c.args.s session c.in-Ok.ensures.session).pin
     all.is
+
+pub watch-requires : goal.watch-requires
+watch-requires g c = record {
+  level = kept_level c.args.connection.now.sessions.sessions c.args.s (session_of_view c.in-Ok.asked.0)
+      c.in-Ok.asked.1 _ c.in-Ok.ensures.session c.in-Ok-answer_query.ensures.least;
+}
