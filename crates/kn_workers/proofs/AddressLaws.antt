@@ -9,7 +9,7 @@ use Rattle.kn_outside.specs.Faults.{Rose}
 use Rattle.kn_history.specs.declared.update.Update.{Update}
 use Rattle.kn_daemon.specs.Daemon.{DaemonConfig}
 use Rattle.kn_registry.specs.Passes.{PassSeen}
-use Rattle.kn_workers.specs.declared.address.AddressEnding.TheVariants.{WorkMemory, DoorFailed, Served}
+use Rattle.kn_workers.specs.declared.address.AddressEnding.TheVariants.{DoorFailed, Served}
 use Rattle.kn_workers.specs.declared.binding.Binding.{Binding}
 use Rattle.kn_workers.specs.declared.worker.ServeEnd.{ServeEnd}
 use Rattle.kn_workers.specs.Addresses.{AreServed, ServesOver}
@@ -91,18 +91,8 @@ module _ {C R : Type 0} (door : R → DoorSeen (ServedSeen C)) where
             let sum = sum_by-cons connections_of work works in
             omega (arith, all, rest, nothing, more, same, sum)
 
-  map_length : {X Y : Type 0} (f : X → Y) (xs : List X) → length (map f xs) ≡ length xs
-  map_length f [] = refl
-  map_length f (x ∷ xs) = let rest = map_length f xs in omega (arith, rest)
-
   module _ (link : C → LinkSeen) (g : DaemonConfig) (v w : PassSeen) (doors doors' : List R) (end : ServeEnd)
       (all : AllServed door link g v w doors doors' end) where
-    -- as many doors as before
-    pub doors_stay : length doors' ≡ length doors
-    doors_stay = ap (λ (l : List R). length l) (sym all.after) ∙ map_length (λ (work : Work C R). work.after) all.works
-        ∙ sym (map_length (λ (work : Work C R). work.before) all.works)
-        ∙ ap (λ (l : List R). length l) all.before
-
     failed_raises : (faults : ℕ) → end.failed ≡ true → Rose faults (with_faults door faults doors')
     failed_raises faults failed =
         subst (λ (l : List R). Rose faults (with_faults door faults l)) all.after
@@ -135,15 +125,6 @@ module _ {C R : Type 0} (door : R → DoorSeen (ServedSeen C)) where
 
     faults_are : n'.faults ≡ with_faults door n.faults doors
     faults_are = ap (λ (x : NetSeen R). x.faults) behind
-
-    pub unserved : (link : C → LinkSeen) (g : DaemonConfig) (past : List Update)
-        → AreBound door binding.quota binding.doors 0 doors → length doors ≡ binding.doors
-        → ServesOver door link g past n n' binding WorkMemory
-    unserved link g past bound count = record {
-      bound = subst (AreBound door binding.quota binding.doors 0) (sym rooms_are) bound;
-      count = ap (λ (l : List R). length l) rooms_are ∙ count;
-      net = net_is;
-    }
 
     module _ (link : C → LinkSeen) (g : DaemonConfig) (before : List R) (v w : PassSeen) (end : ServeEnd)
         (root : v.number ≡ 0) (unsplit : v.splits ≡ 0) (bound : AreBound door binding.quota binding.doors 0 before)

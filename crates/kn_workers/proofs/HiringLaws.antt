@@ -13,9 +13,6 @@ use Rattle.kn_workers.specs.declared.post.Post.{Post}
 use Rattle.kn_workers.specs.Workers.{splits_from, after_joins, IsRejoined}
 use Rattle.kn_workers.specs.Posts.{IsSplit, posts_of, passes_of, doors_of, all_finished, some_failed, AllSeenIn}
 
-with_splits : PassSeen → ℕ → PassSeen
-with_splits w n = record w { splits = n }
-
 pub split_one_more : (w : PassSeen) (k : ℕ) →
     splits_from w (suc k) ≡ splits_from w k ++ split_of (record w { splits = w.splits + k }) ∷ []
 split_one_more w zero = ap (λ (n : ℕ). split_of (record w { splits = n }) ∷ []) (omega arith)
@@ -62,9 +59,6 @@ rejoined v w n e = record {
   seen = ap (λ (x : PassSeen). x.seen) e ∙ joined_seen (record v { splits = v.splits + n }) v n refl;
 }
 
-pub rejoined_none : (v w : PassSeen) → w ≡ v → IsRejoined v w
-rejoined_none v w e = rejoined v w 0 (e ∙ ap (λ (n : ℕ). record v { splits = n }) (omega arith))
-
 module _ {X : Type 0} where
   pub first_taken : (xs : List X) (x : X) → slice_get xs 0 ≡ Some x → xs ≡ x ∷ remove xs 0
   first_taken [] x e = absurd (cc e)
@@ -92,18 +86,6 @@ module _ {D : Type 0} where
       let rest : length passes ≡ length doors = omega (arith, e) in
       ap (λ (k : ℕ). suc k) (posts_length doors passes rest)
 
-  pub posts_one_more : (posts : List (Post D)) (doors : List D) (passes : List PassSeen) (d : D) (p : PassSeen) →
-      slice_get doors 0 ≡ Some d → slice_get passes 0 ≡ Some p →
-      posts ++ posts_of doors passes
-      ≡ (posts ++ record { door = d; pass = p; end = record { finished = 0; failed = false } } ∷ [])
-      ++ posts_of (remove doors 0) (remove passes 0)
-  posts_one_more posts doors passes d p door pass =
-      ap (λ (x : List D × List PassSeen). posts ++ posts_of x.0 x.1)
-      (λ i. (first_taken doors d door i, first_taken passes p pass i))
-      ∙ sym
-      (append_assoc posts (record { door = d; pass = p; end = record { finished = 0; failed = false } } ∷ [])
-      (posts_of (remove doors 0) (remove passes 0)))
-
 -- what was seen is the first part of a history, also where that begins with another
 prefix-trans : (a b c : List Update) → IsPrefix a b → IsPrefix b c → IsPrefix a c
 prefix-trans a b c p q = (p.0 ++ q.0, sym (append_assoc a p.0 q.0) ∙ ap (λ (l : List Update). l ++ q.0) p.1 ∙ q.1)
@@ -112,9 +94,6 @@ prefix-trans a b c p q = (p.0 ++ q.0, sym (append_assoc a p.0 q.0) ∙ ap (λ (l
 abbrev pub RestsOn : List Update → List PassSeen → List Update → List PassSeen → Type 0
 RestsOn first all seen passes = (history : List Update) → IsPrefix seen history → AllSeenIn history passes →
     IsPrefix first history × AllSeenIn history all
-
-pub rests_at_first : (first : List Update) (all : List PassSeen) → RestsOn first all first all
-rests_at_first first all = λ history p q. (p, q)
 
 pub rests_one_more : (first : List Update) (all : List PassSeen) (seen seen' : List Update) (pass : PassSeen)
     (passes : List PassSeen) → RestsOn first all seen (pass ∷ passes) →

@@ -5,5 +5,4 @@ pub mod ServingAll
 pub mod RoomLaws
 pub mod ShareLaws
 pub mod AddressLaws
-pub mod MemoryLaws
 pub mod Crossing

@@ -1,18 +1,13 @@
--- The shares of doors add up to their quota, and as many doors come back as were served.
+-- The shares of doors add up to their quota.
 use Rattle.std.proofs.Common.{◌≡◌, ℕ, ◌+◌, ◌<◌, ◌≤◌, Bool, true, false, List, [], ◌∷◌, length, refl, sym, ap, ◌∙◌}
 use Rattle.std.proofs.Common.{arith}
 use Rattle.std.specs.Prelude.{◌/◌, ◌%◌, ◌*◌, min, nat_lt, if◌then◌else◌}
 use Rattle.std.proofs.Math.Nat.{div-add-mod, mod-lt, suc-mul}
 use Rattle.std.proofs.lemmas.Bool.{ltb-true, lt-ltb}
-use Rattle.std.proofs.lemmas.List.{length-map}
-use Rattle.kn_outside.specs.Seen.{LinkSeen}
-use Rattle.kn_daemon.specs.Daemon.{DaemonConfig}
-use Rattle.kn_registry.specs.Passes.{PassSeen}
 use Rattle.kn_workers.specs.Connections.{ServedSeen}
 use Rattle.kn_workers.specs.Doors.{DoorSeen}
 use Rattle.kn_workers.specs.Nets.{share, AreBound}
-use Rattle.kn_workers.specs.Workers.{Work, all_quotas, AllServed}
-use Rattle.kn_workers.specs.declared.worker.ServeEnd.{ServeEnd}
+use Rattle.kn_workers.specs.Workers.{all_quotas}
 
 one-of : (i r : ℕ) (b : Bool) → nat_lt i r ≡ b → (if b then 1 else 0) + min i r ≡ min (i + 1) r
 one-of i r true e = let less = ltb-true i r e in omega (arith, less)
@@ -48,12 +43,3 @@ module _ {C R : Type 0} (seen : R → DoorSeen (ServedSeen C)) (quota doors : �
       let product : length rooms * (quota / doors) ≡ doors * (quota / doors) =
       ap (λ (n : ℕ). n * (quota / doors)) count in
       omega (arith, all, less, whole, count, product)
-
-module _ {C D : Type 0} (door : D → DoorSeen (ServedSeen C)) where
-  -- as many doors come back as were served
-  pub as_many_back : (link : C → LinkSeen) (g : DaemonConfig) (v w : PassSeen) (doors doors' : List D) (end : ServeEnd)
-      →
-      AllServed door link g v w doors doors' end → length doors' ≡ length doors
-  as_many_back link g v w doors doors' end served =
-      sym (ap (λ (l : List D). length l) served.after) ∙ length-map served.works (λ (work : Work C D). work.after)
-      ∙ sym (length-map served.works (λ (work : Work C D). work.before)) ∙ ap (λ (l : List D). length l) served.before
