@@ -1,5 +1,5 @@
 -- A reply at the front of bytes, and a file of replies that is followed up to some place.
-use Rattle.std.proofs.Common.{◌≡◌, ℕ, ◌+◌, ◌-◌, ◌<◌, ◌≤◌, min, true, List, [], ◌∷◌, ◌++◌, length, take, drop, codes}
+use Rattle.std.proofs.Common.{◌≡◌, ℕ, ◌+◌, ◌-◌, ◌<◌, ◌≤◌, min, true, List, [], ◌∷◌, ◌++◌, length, take, drop}
 use Rattle.std.proofs.Common.{refl, sym, ap, ◌∙◌, subst, append_assoc, arith}
 use Rattle.std.specs.Prelude.{◌==◌}
 use Rattle.std.specs.List.{AllByRecursion, concat}
@@ -12,7 +12,7 @@ use Rattle.kn_follow.specs.declared.fault.FollowFault.{FollowFault}
 use Rattle.kn_follow.specs.declared.fault.FollowFault.TheVariants.{Line, Gap, Refused, NoMemory}
 use Rattle.kn_follow.specs.declared.reply.TheConstants.{REPLY_BYTES}
 use Rattle.kn_follow.specs.Forms.{LogReply, form_text, IsLogText}
-use Rattle.kn_follow.specs.Following.{IsApplied, Applies, TakesReply, IsReplyFault, IsFollowFault}
+use Rattle.kn_follow.specs.Following.{IsApplied, Applies, TakesReply, IsReplyFault}
 use Rattle.kn_follow.specs.Files.{IsWithinLimit, AppliesFront, RefusesFront, FrontDepartsAt, IsFrontFault, AppliesFirst}
 use Rattle.kn_follow.specs.Files.{IsLogFile, IsLogFault, StartsWith, IsFrontReadFault}
 use Rattle.kn_follow.specs.Reading.{literal_at, reply_at}
@@ -132,13 +132,6 @@ front_fault held bytes reply rest (Refused place) new starts why =
     front-refused held bytes reply rest (Refused place) new starts why
 front_fault held bytes reply rest NoMemory new starts why = tt
 
-pub front_unread : (held : List Update) (bytes : List ℕ) (fault : FollowFault) → IsFrontReadFault bytes fault
-    → IsFrontFault held bytes fault
-front_unread held bytes (Line at) why = why
-front_unread held bytes (Gap from have) why = absurd why
-front_unread held bytes (Refused place) why = absurd why
-front_unread held bytes NoMemory why = tt
-
 nothing-read : reply_at [] ≡ stopped []
 unfolding reply_at literal_at
 nothing-read = refl
@@ -196,10 +189,6 @@ follow_ended text left held first none = record {
   short = first.short;
   applied = first.applied;
 }
-
-pub follow_fails : (text left : List ℕ) (held : List Update) (fault : FollowFault) → AppliesFirst text left held
-    → IsFrontFault held left fault → IsLogFault text fault
-follow_fails text left held fault first why = record { held = held; left = left; first = first; why = why }
 
 pub follow_unbegun : (text : List ℕ) → IsLogFault text NoMemory
 follow_unbegun text = record { held = []; left = text; first = follow_begun text [] refl; why = tt }

@@ -11,4 +11,3 @@ pub mod AnswerForms
 pub mod PullSteps
 pub mod PullRounds
 pub mod Refusals
-pub mod RequestLines

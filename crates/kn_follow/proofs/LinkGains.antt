@@ -1,9 +1,8 @@
 -- What calls on a link take and write, one after the other.
-use Rattle.std.proofs.Common.{◌≡◌, ℕ, ◌≤◌, true, false, List, [], ◌++◌, take, sym, ap, ◌∙◌, arith}
+use Rattle.std.proofs.Common.{◌≡◌, ℕ, true, false, List, [], ◌++◌, take, sym, ap, ◌∙◌, arith}
 use Rattle.kn_outside.specs.Seen.{LinkSeen}
 use Rattle.kn_outside.specs.SpecifiedBytes.{more}
 use Rattle.kn_outside.specs.Printing.{Prints}
-use Rattle.kn_outside.specs.Reading.{Reads}
 use Rattle.kn_outside.proofs.Parts.{more_more, more_nothing, before_nothing, before_parts}
 use Rattle.kn_follow.specs.Pulling.{Gains}
 
@@ -47,29 +46,6 @@ gains-part text l l' p =
       later = p.later;
     }
 
--- bytes were read
-pub gains-read : (piece : List ℕ) (l l' : LinkSeen) → Reads piece l l' → Gains l l' piece []
-gains-read piece l l' r =
-    let same : l'.faults ≡ l.faults = ap (λ (x : LinkSeen). x.faults) r.taken in
-    record {
-      took = ap (λ (x : LinkSeen). x.taken) r.taken;
-      left = r.left;
-      wrote = ap (λ (x : LinkSeen). x.written) r.taken ∙ more_nothing l.written;
-      later = omega arith;
-    }
-
--- a call failed
-pub gains-failed : (l l' : LinkSeen) → l' ≡ record l { faults = l'.faults } → l.faults ≤ l'.faults → Gains l l' [] []
-gains-failed l l' same later = record {
-  took = ap (λ (x : LinkSeen). x.taken) same ∙ more_nothing l.taken;
-  left = sym (ap (λ (x : LinkSeen). x.left) same) ∙ before_nothing l'.left;
-  wrote = ap (λ (x : LinkSeen). x.written) same ∙ more_nothing l.written;
-  later = later;
-}
-
--- where a text was written whole, or bytes were read, no call failed
+-- where a text was written whole, no call failed
 pub written-calm : (text : List ℕ) (l l' : LinkSeen) → Prints true text l l' → l'.faults ≡ l.faults
 written-calm text l l' p = ap (λ (x : LinkSeen). x.faults) p.writes
-
-pub read-calm : (piece : List ℕ) (l l' : LinkSeen) → Reads piece l l' → l'.faults ≡ l.faults
-read-calm piece l l' r = ap (λ (x : LinkSeen). x.faults) r.taken

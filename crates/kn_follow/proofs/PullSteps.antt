@@ -1,20 +1,18 @@
 -- One request of a pull and its answer.
-use Rattle.std.proofs.Common.{◌≡◌, ◌≢◌, ℕ, ◌<◌, ◌≤◌, true, false, List, [], ◌∷◌, ◌++◌, length, take, drop, Result, Ok}
-use Rattle.std.proofs.Common.{Err, IfOk, IfErr, refl, sym, ap, ◌∙◌, subst, arith, append_assoc, append-nil, inl, inr}
+use Rattle.std.proofs.Common.{◌≡◌, ℕ, ◌≤◌, true, false, List, [], ◌++◌, length, take, drop, Result, Ok}
+use Rattle.std.proofs.Common.{Err, IfOk, IfErr, refl, sym, ap, ◌∙◌, subst, arith, append-nil, inl, inr}
 use Rattle.std.proofs.lemmas.List.{take-append-drop}
 use Rattle.kn_outside.specs.Seen.{LinkSeen}
 use Rattle.kn_outside.specs.Faults.{Rose}
 use Rattle.kn_outside.specs.Printing.{Prints}
 use Rattle.kn_history.specs.declared.update.Update.{Update}
-use Rattle.kn_follow.specs.declared.fault.FollowFault.TheVariants as F
 use Rattle.kn_follow.specs.declared.pull_fault.PullFault.{PullFault}
 use Rattle.kn_follow.specs.declared.pull_fault.PullFault.TheVariants.{Read, Write, Denied, Ended, Long, Follow}
 use Rattle.kn_follow.specs.declared.pull_fault.PullFault.TheVariants.{Unserved, NoMemory}
 use Rattle.kn_follow.specs.declared.request.Request.{Request}
-use Rattle.kn_follow.specs.declared.request.Request.TheVariants.{Admin, Log, Bye}
-use Rattle.kn_follow.specs.Answers.{IsAnswer, Awaits, ok_line}
-use Rattle.kn_follow.specs.Pulling.{Gains, IsUnanswered, IsCause, IsNoRefusal, Stops}
-use Rattle.kn_follow.specs.Exchanges.{Grows, IsAnswered, IsNotAnswered, IsNotRead, IsStopped, Passes}
+use Rattle.kn_follow.specs.Answers.{IsAnswer, Awaits}
+use Rattle.kn_follow.specs.Pulling.{Gains, IsUnanswered, Stops}
+use Rattle.kn_follow.specs.Exchanges.{IsAnswered, IsNotAnswered, IsNotRead, IsStopped, Passes}
 use Rattle.kn_follow.proofs.LinkGains.{gains-nothing, gains-more, gains-written, gains-part, written-calm}
 
 -- Causes over two stretches of calls, of which the first had no fault.
@@ -115,61 +113,6 @@ pub record IsHeld (old new : List ℕ) (l l' : LinkSeen) : Type 0 where
 pub held-first : (old : List ℕ) (l : LinkSeen) → IsHeld old old l l
 held-first old l = record { piece = []; gains = gains-nothing l; came = sym (append-nil old); calm = refl }
 
-pub held-more : (old mid new : List ℕ) (l m l' : LinkSeen) (count : ℕ) → IsHeld old mid l m → Grows mid new m l' count
-    → IsHeld old new l l'
-held-more old mid new l m l' count h g = record {
-  piece = h.piece ++ g.piece;
-  gains = gains-more l m l' h.piece [] g.piece [] h.gains g.gains;
-  came = g.came ∙ ap (λ t. t ++ g.piece) h.came ∙ append_assoc old h.piece g.piece;
-  calm = g.calm ∙ h.calm;
-}
-
-pub waited-well : (request : Request) (old new : List ℕ) (l l' : LinkSeen) (count : ℕ) → IsHeld old new l l'
-    → count ≤ length new → IsAnswer request (take count new) → IsAnswered request [] old new l l' count
-waited-well request old new l l' count h within answer =
-    record { piece = h.piece; gains = h.gains; came = h.came; within = within; answer = answer; calm = h.calm }
-
-pub waited-memory : (request : Request) (old new : List ℕ) (l l' : LinkSeen) → IsHeld old new l l'
-    → IsNotAnswered request [] old l l' NoMemory
-waited-memory request old new l l' h =
-    record { piece = h.piece; written = []; gains = h.gains; cause = (inl refl, h.calm) }
-
-pub waited-long : (request : Request) (old new : List ℕ) (l l' : LinkSeen) (bytes : ℕ) → IsHeld old new l l'
-    → Awaits request new → 300000 < length new → bytes ≡ 300001 → IsNotAnswered request [] old l l' (Long bytes)
-waited-long request old new l l' bytes h waits long is = record {
-  piece = h.piece;
-  written = [];
-  gains = h.gains;
-  cause = (refl, subst (Awaits request) h.came waits, subst (λ t. 300000 < length t) h.came long, is, h.calm);
-}
-
-pub waited-end : (request : Request) (old mid new : List ℕ) (l m l' : LinkSeen) (bytes : ℕ) → IsHeld old mid l m
-    → Awaits request mid → length mid ≤ 300000 → Grows mid new m l' 0 → bytes ≡ length new
-    → IsNotAnswered request [] old l l' (Ended bytes)
-waited-end request old mid new l m l' bytes h waits short g is =
-    let next = held-more old mid new l m l' 0 h g in
-    let size = g.size in
-    let same : new ≡ mid = g.came ∙ ap (λ t. mid ++ t) (no-bytes g.piece (omega (arith, size))) ∙ append-nil mid in
-    let at : old ++ next.piece ≡ mid = sym next.came ∙ same in
-    record {
-      piece = next.piece;
-      written = [];
-      gains = next.gains;
-      cause = (
-        refl,
-        subst (Awaits request) (sym at) waits,
-        subst (λ t. length t ≤ 300000) (sym at) short,
-        is
-            ∙ ap length next.came,
-        g.over refl,
-        next.calm,
-      );
-    }
-  where
-    no-bytes : (t : List ℕ) → length t ≡ 0 → t ≡ []
-    no-bytes [] e = refl
-    no-bytes (b ∷ t) e = absurd (omega (arith, e))
-
 pub waited-not : (request : Request) (old mid : List ℕ) (l m l' : LinkSeen) (fault : PullFault) → IsHeld old mid l m
     → Awaits request mid → length mid ≤ 300000 → IsNotRead m l' fault → IsNotAnswered request [] old l l' fault
 waited-not request old mid l m l' Read h waits short (g, rose) = record {
@@ -198,18 +141,6 @@ waited-not request old mid l m l' Unserved h waits short n = absurd n
 
 -- Stopping, or going on behind an answer.
 
-pub stopped-unanswered : (request : Request) (line held : List ℕ) (l l' : LinkSeen) (holds : List Update)
-    (fault : PullFault) → IsNotAnswered request line held l l' fault
-    → IsStopped request line held l l' holds holds fault
-stopped-unanswered request line held l l' holds fault n =
-    record {
-      piece = n.piece;
-      written = n.written;
-      gains = n.gains;
-      stops =
-          inl (record { cause = n.cause; kept = refl });
-    }
-
 -- out of memory for the line
 pub stopped-before : (request : Request) (line held : List ℕ) (l : LinkSeen) (holds : List Update)
     → IsStopped request line held l l holds holds NoMemory
@@ -221,36 +152,6 @@ stopped-before request line held l holds =
       stops =
           inl (record { cause = (inl refl, refl); kept = refl });
     }
-
--- out of memory for what is held behind the answer
-pub stopped-behind : (request : Request) (line old mid : List ℕ) (l l' : LinkSeen) (count : ℕ) (holds : List Update)
-    → IsAnswered request line old mid l l' count → IsStopped request line old l l' holds holds NoMemory
-stopped-behind request line old mid l l' count holds a =
-    record {
-      piece = a.piece;
-      written = line;
-      gains = a.gains;
-      stops =
-          inl (record { cause = (inr refl, a.calm); kept = refl });
-    }
-
-pub stopped-by : (request : Request) (line old mid answer : List ℕ) (l l' : LinkSeen) (count : ℕ)
-    (holds new : List Update) (fault : PullFault) → IsAnswered request line old mid l l' count → answer ≡ take count mid
-    → IsCause request holds answer fault new → IsStopped request line old l l' holds new fault
-stopped-by request line old mid answer l l' count holds new fault a is cause = record {
-  piece = a.piece;
-  written = line;
-  gains = a.gains;
-  stops = inr (record {
-    answer = answer;
-    rest = drop count mid;
-    asked = refl;
-    cut = sym a.came ∙ sym (take-append-drop count mid) ∙ ap (λ t. t ++ drop count mid) (sym is);
-    whole = subst (IsAnswer request) (sym is) a.answer;
-    cause = cause;
-    calm = a.calm;
-  });
-}
 
 pub passed : (request : Request) (line old mid new answer : List ℕ) (l l' : LinkSeen) (count : ℕ)
     → IsAnswered request line old mid l l' count → answer ≡ take count mid → new ≡ drop count mid
@@ -276,12 +177,3 @@ pub ask-faults : (request : Request) (line old : List ℕ) (l m l' : LinkSeen) (
     → IfErr r (λ fault. IsNotAnswered request line old l l' fault)
 ask-faults request line old l m l' (Ok count) p n = tt
 ask-faults request line old l m l' (Err fault) p n = asked-in_vain request line old l m l' fault p n
-
--- Causes.
-
--- ADMIN or BYE is answered by a line that is neither `OK` nor a `NO` line
-pub plain-unfit : (request : Request) (old : List Update) (answer : List ℕ) → request ≢ Log → answer ≢ ok_line
-    → IsNoRefusal answer → IsCause request old answer (Follow (F.Line 0)) old
-plain-unfit Admin old answer plain other none = (none, (other, refl, refl))
-plain-unfit Log old answer plain other none = absurd (plain refl)
-plain-unfit Bye old answer plain other none = (none, (other, refl, refl))

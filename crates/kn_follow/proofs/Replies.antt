@@ -156,9 +156,6 @@ any-item text rest same =
           refl;
     }
 
-abbrev item_by : ℕ → List ℕ → Read BatchItem
-item_by b text = cond (b == 65) (addition_at text) (cond (b == 68) (removal_at text) (stopped text))
-
 item-sound : (text : List ℕ) (item : BatchItem) (rest : List ℕ) → item_at text ≡ got item rest → IsShortItem item
     × (text ≡ item_text item ++ rest)
 unfolding item_at

@@ -69,14 +69,6 @@ refused_change past u found e =
     (is_none (refusal_of_items (all_changes past) items) && list_all item_reads items)
     (and_left (is_none (refusal_of_items (all_changes past) items)) (list_all item_reads items) (ap is_none e))
 
--- an item of a list has no reading
-pub one_unreadable : {X : Type 0} (reads : X → Bool) (xs : List X) (i : ℕ) (d : X) → i < length xs
-    → reads (get_or xs i d) ≡ false → list_all reads xs ≡ false
-one_unreadable reads [] i d within e = absurd (omega (arith, within))
-one_unreadable reads (x ∷ xs) zero d within e = and_left (reads x) (list_all reads xs) e
-one_unreadable reads (x ∷ xs) (suc i) d within e =
-    and_right (reads x) (list_all reads xs) (one_unreadable reads xs i d (omega (arith, within)) e)
-
 -- Loops over updates.
 
 -- what stands at a place behind the first ones
