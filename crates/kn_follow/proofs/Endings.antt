@@ -1,5 +1,5 @@
 -- A file of replies has one ending.
-use Rattle.std.proofs.Common.{◌≡◌, ◌≢◌, ◌⊎◌, ℕ, zero, suc, ◌+◌, ◌-◌, ◌<◌, ◌≤◌, Bool, true, false, Option, Some, None}
+use Rattle.std.proofs.Common.{◌≡◌, ◌≢◌, ◌⊎◌, ℕ, zero, suc, ◌+◌, ◌-◌, ◌<◌, ◌≤◌, true, false, Option, Some, None}
 use Rattle.std.proofs.Common.{List, [], ◌∷◌, ◌++◌, length, take, drop, Ok, Err, refl, sym, ap, ◌∙◌, subst, append_assoc}
 use Rattle.std.proofs.Common.{arith, inl, inr}
 use Rattle.std.specs.List.{AllByRecursion, concat}
@@ -10,14 +10,13 @@ use Rattle.kn_follow.specs.declared.fault.FollowFault.{FollowFault}
 use Rattle.kn_follow.specs.declared.fault.FollowFault.TheVariants.{Line, Gap, Refused, NoMemory}
 use Rattle.kn_follow.specs.declared.reply.TheConstants.{REPLY_BYTES}
 use Rattle.kn_follow.specs.Forms.{ReceivedUpdate, LogReply, form_text, IsLogText}
-use Rattle.kn_follow.specs.Following.{may_be_taken, update_behind, Takes, IsRefusedAt, IsReplyRefused, IsReplyFault}
+use Rattle.kn_follow.specs.Following.{may_be_taken, update_behind, Takes, IsRefusedAt, IsReplyFault}
 use Rattle.kn_follow.specs.Following.{IsApplied, Applies}
 use Rattle.kn_follow.specs.Files.{IsWithinLimit, AppliesFront, IsFrontFault, IsLogFile, IsLogFault, StartsWith}
 use Rattle.kn_follow.specs.Laws.{SomeEnding, OneEnding}
 use Rattle.kn_follow.specs.Reading.{Read, reply_at}
-use Rattle.kn_follow.proofs.Readers.{got, stopped, got_is}
+use Rattle.kn_follow.proofs.Readers.{got, got_is}
 use Rattle.kn_follow.proofs.Replies.{reply-reader, one-reading}
-use Rattle.kn_follow.proofs.Takings.{one_taking, follow_fault}
 use Rattle.kn_follow.proofs.Followers.{taken-in_one_way}
 use Rattle.kn_follow.proofs.Fronts.{front-read, front-departs, front_applied, front_fault, front_shorter, some-text}
 
