@@ -14,7 +14,7 @@ use Rattle.kn_workers.specs.Doors.{DoorSeen}
 use Rattle.kn_words.specs.Names.{AskNames, CheckNames, VerifyNames}
 use Rattle.kn_words.specs.Orders.{Order}
 use Rattle.kn_endings.specs.AskEndings.{status_of_ended, status_of_ask}
-use Rattle.kn_endings.specs.CheckEndings.{status_of_ending}
+use Rattle.kn_endings.specs.CheckEndings.{status_of_check}
 use Rattle.kn_endings.specs.FollowEndings.{status_of_follow}
 use Rattle.keynoted.specs.ServeEndings.{status_of_serve}
 use Rattle.kn_endings.specs.VerifyEndings.{status_of_verify}
@@ -122,11 +122,11 @@ module _ {C R : Type 0} (door : R → DoorSeen (ServedSeen C)) (link : C → Lin
       → CheckLeads before.files names due
       → (outcome : Outcome) → IsOutcome door link given before after outcome → EndsWith due (status_of outcome)
   called_check names words calm leads (CheckEnded others ending) cause =
-      check_ends names (status_of_ending ending) leads
-      (subst (λ (n : CheckNames). CheckLeads before.files n (status_of_ending ending) ⊎ (status_of_ending ending ≡ 5))
+      check_ends names (status_of_check ending) leads
+      (subst (λ (n : CheckNames). CheckLeads before.files n (status_of_check ending) ⊎ (status_of_check ending ≡ 5))
       (same_names given others names cause.0 words)
       (check_leads before.files after.files (told_by before.files names.policy _ _ _ due leads) calm
-      others (status_of_ending ending) ending cause.1 refl))
+      others (status_of_check ending) ending cause.1 refl))
   called_check names words calm leads NoCommand cause = absurd (cause.0.check names words)
   called_check names words calm leads WordsLackMemory cause = absurd (check_is_no_serve given names words cause.0.serve)
   called_check names words calm leads (AskEnded others ending) cause =

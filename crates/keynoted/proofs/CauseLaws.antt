@@ -53,7 +53,7 @@ use Rattle.kn_words.specs.Orders.{Order}
 use Rattle.kn_inputs.specs.InputFaults.{status_of}
 use Rattle.kn_endings.specs.AskEndings.{status_of_ended, status_of_ask}
 use Rattle.kn_words.specs.Sources.{name_of}
-use Rattle.kn_endings.specs.CheckEndings.{status_of_ending}
+use Rattle.kn_endings.specs.CheckEndings.{status_of_check}
 use Rattle.kn_endings.specs.FollowEndings.{status_of_follow}
 use Rattle.keynoted.specs.ServeEndings.{status_of_serve}
 use Rattle.kn_endings.specs.VerifyEndings.{status_of_verify}
@@ -200,7 +200,7 @@ module _ (f f' : FilesSeen) (specified : IsSpecified f) (calm : ¬ Rose f.faults
         let much = held_too_much f names.reply specified large in
         passed_script session values query (TooLarge much.0 much.1 at)
 
-    pub check_leads : (ending : CheckEnding) → CheckCause f f' names ending → due ≡ status_of_ending ending
+    pub check_leads : (ending : CheckEnding) → CheckCause f f' names ending → due ≡ status_of_check ending
         → CheckLeads f names due ⊎ (due ≡ 5)
     check_leads (Stopped source S.FileFailed) cause at = absurd (calm cause.1.rose)
     check_leads (Stopped source S.FileTooLarge) cause at = inl (too_large source at cause.0 cause.2)

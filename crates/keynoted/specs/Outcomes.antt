@@ -9,7 +9,7 @@ use Rattle.kn_workers.specs.Nets.{NetSeen}
 use Rattle.kn_words.specs.Names.{AskNames, CheckNames, VerifyNames}
 use Rattle.kn_words.specs.Orders.{Order}
 use Rattle.kn_endings.specs.AskEndings.{status_of_ask, line_of_ask}
-use Rattle.kn_endings.specs.CheckEndings.{status_of_ending, line_of_ending}
+use Rattle.kn_endings.specs.CheckEndings.{status_of_check, line_of_check}
 use Rattle.kn_endings.specs.FollowEndings.{status_of_follow, line_of_follow}
 use Rattle.keynoted.specs.ServeEndings.{status_of_serve, line_of_serve}
 use Rattle.kn_endings.specs.VerifyEndings.{status_of_verify, line_of_verify}
@@ -52,7 +52,7 @@ status_of NoCommand = 1
 status_of WordsLackMemory = 5
 status_of (AskEnded names ending) = status_of_ask ending
 status_of (ServeEnded order ending) = status_of_serve ending
-status_of (CheckEnded names ending) = status_of_ending ending
+status_of (CheckEnded names ending) = status_of_check ending
 status_of (FollowEnded name ending) = status_of_follow ending
 status_of (VerifyEnded names ending) = status_of_verify ending
 status_of (GenEnded numbers (Some line)) = 0
@@ -64,7 +64,7 @@ line_of NoCommand = codes "error words\n"
 line_of WordsLackMemory = codes "error memory\n"
 line_of (AskEnded names ending) = line_of_ask names ending
 line_of (ServeEnded order ending) = line_of_serve order ending
-line_of (CheckEnded names ending) = line_of_ending names ending
+line_of (CheckEnded names ending) = line_of_check names ending
 line_of (FollowEnded name ending) = line_of_follow name ending
 line_of (VerifyEnded names ending) = line_of_verify names ending
 line_of (GenEnded numbers (Some line)) = line

@@ -2,7 +2,7 @@
 ghost use Rattle.std.specs.Prelude.{[]};
 ghost use Rattle.kn_inputs.specs.InputFaults.{input_fault_line, status_of};
 ghost use Rattle.kn_endings.specs.AskEndings.{line_of_ask, status_of_ask};
-ghost use Rattle.kn_endings.specs.CheckEndings.{line_of_ending, status_of_ending};
+ghost use Rattle.kn_endings.specs.CheckEndings.{line_of_check, status_of_check};
 ghost use Rattle.kn_endings.specs.FollowEndings.{line_of_follow, status_of_follow};
 ghost use Rattle.kn_endings.specs.VerifyEndings.{line_of_verify, status_of_verify};
 ghost use Rattle.keynoted.specs.Outcomes.{IsPrintedOrCut};
@@ -74,7 +74,7 @@ pub(crate) fn end_verify<O: Sink>(out: &mut O, ending: VerifyEnding, names: &Ver
 
 /// Ends with how a check ended.
 pub(crate) fn end_check<O: Sink>(out: &mut O, ending: CheckEnding, names: &CheckFiles<'_>) -> u8
-    ensures { IsPrintedOrCut (line_of_ending names.now ending) (status_of_ending ending)
+    ensures { IsPrintedOrCut (line_of_check names.now ending) (status_of_check ending)
         (O.seen out.old) (O.seen out.new) result }
 {
     match print_check(out, &ending, names) {

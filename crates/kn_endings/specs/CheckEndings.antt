@@ -8,12 +8,12 @@ use Rattle.kn_words.specs.Names.{CheckNames}
 use Rattle.kn_words.specs.Sources.{name_of}
 use Rattle.kn_inputs.specs.InputFaults.{input_fault_line, status_of}
 
-abbrev pub status_of_ending : CheckEnding → ℕ
-status_of_ending (Stopped source stop) = status_of stop
-status_of_ending NoQuery = 10
-status_of_ending (Faulty fault line) = 6
-status_of_ending (Rejected reject) = 6
-status_of_ending (Proved value name) = 0
+abbrev pub status_of_check : CheckEnding → ℕ
+status_of_check (Stopped source stop) = status_of stop
+status_of_check NoQuery = 10
+status_of_check (Faulty fault line) = 6
+status_of_check (Rejected reject) = 6
+status_of_check (Proved value name) = 0
 
 -- the line that tells a fault in the text of a reply
 unfoldable pub text_line : ℕ → ℕ → List ℕ
@@ -29,9 +29,9 @@ unfoldable pub proved_line : ℕ → List ℕ → List ℕ
 proved_line value name = codes "PROVED " ++ decimal value ++ codes " " ++ name ++ codes "\n"
 
 -- the line that is due
-abbrev pub line_of_ending : CheckNames → CheckEnding → List ℕ
-line_of_ending names (Stopped source stop) = input_fault_line (name_of names source) stop
-line_of_ending names NoQuery = codes "error query\n"
-line_of_ending names (Faulty fault line) = text_line fault line
-line_of_ending names (Rejected reject) = reject_line reject
-line_of_ending names (Proved value name) = proved_line value name
+abbrev pub line_of_check : CheckNames → CheckEnding → List ℕ
+line_of_check names (Stopped source stop) = input_fault_line (name_of names source) stop
+line_of_check names NoQuery = codes "error query\n"
+line_of_check names (Faulty fault line) = text_line fault line
+line_of_check names (Rejected reject) = reject_line reject
+line_of_check names (Proved value name) = proved_line value name

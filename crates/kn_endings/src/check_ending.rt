@@ -23,11 +23,11 @@ pub enum CheckEnding {
 }
 
 impl CheckEnding {
-    ghost use Rattle.kn_endings.specs.CheckEndings.{status_of_ending};
+    ghost use Rattle.kn_endings.specs.CheckEndings.{status_of_check};
 
     /// The exit status.
     pub fn status(&self) -> u8
-        ensures { result ≡ status_of_ending self.now }
+        ensures { result ≡ status_of_check self.now }
     {
         match self {
             CheckEnding::Stopped { stop, .. } => stop.status(),

@@ -1,6 +1,6 @@
 //! The line that tells how checking a reply ended.
 ghost use Rattle.kn_outside.specs.Printing.{Prints, is_whole};
-ghost use Rattle.kn_endings.specs.CheckEndings.{line_of_ending, text_line, reject_line, proved_line};
+ghost use Rattle.kn_endings.specs.CheckEndings.{line_of_check, text_line, reject_line, proved_line};
 
 use crate::check_ending::CheckEnding;
 use crate::line::{print_all, print_line};
@@ -71,7 +71,7 @@ pub fn print_check<O: Sink>(
     ending: &CheckEnding,
     names: &CheckFiles<'_>,
 ) -> Result<(), Failed>
-    ensures { Prints (is_whole result) (line_of_ending names.now ending.now) (O.seen out.old) (O.seen out.new) }
+    ensures { Prints (is_whole result) (line_of_check names.now ending.now) (O.seen out.old) (O.seen out.new) }
 {
     match ending {
         CheckEnding::Stopped { source, stop } => print_line(out, *stop, names.name(*source)),
