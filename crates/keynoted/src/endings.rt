@@ -1,5 +1,5 @@
 //! How each command ends: with the status and the line of its ending, or with 9 where the line can't be written.
-ghost use Rattle.std.specs.Prelude.{[]};
+ghost use Rattle.std.specs.Prelude.{◌≡◌, [], IfOk, IfErr};
 ghost use Rattle.kn_inputs.specs.InputFaults.{input_fault_line, status_of};
 ghost use Rattle.kn_endings.specs.AskEndings.{line_of_ask, status_of_ask};
 ghost use Rattle.kn_endings.specs.CheckEndings.{line_of_check, status_of_check};
@@ -18,14 +18,22 @@ use kn_inputs::InputFault;
 use kn_outside::{Failed, Sink};
 use kn_words::{AskFiles, CheckFiles, Service, VerifyFiles};
 
+/// The status of an ending, or 9 where its line was not written whole.
+fn end_with(printed: Result<(), Failed>, status: u8) -> u8
+    ensures own { IfOk printed (λ none. result ≡ status) }
+    ensures cut { IfErr printed (λ failed. result ≡ 9) }
+{
+    match printed {
+        Ok(()) => status,
+        Err(Failed) => 9,
+    }
+}
+
 /// Ends with what stopped the program.
 pub(crate) fn end<O: Sink>(out: &mut O, stop: InputFault) -> u8
     ensures { IsPrintedOrCut (input_fault_line [] stop) (status_of stop) (O.seen out.old) (O.seen out.new) result }
 {
-    match print_line(out, stop, b"") {
-        Ok(()) => stop.status(),
-        Err(Failed) => 9,
-    }
+    end_with(print_line(out, stop, b""), stop.status())
 }
 
 /// Ends with how a link was served.
@@ -33,10 +41,7 @@ pub(crate) fn end_ask<O: Sink>(out: &mut O, ending: AskEnding, names: &AskFiles<
     ensures { IsPrintedOrCut (line_of_ask names.now ending) (status_of_ask ending)
         (O.seen out.old) (O.seen out.new) result }
 {
-    match print_ask(out, ending, names) {
-        Ok(()) => ending.status(),
-        Err(Failed) => 9,
-    }
+    end_with(print_ask(out, ending, names), ending.status())
 }
 
 /// Ends with how a service ended.
@@ -44,10 +49,7 @@ pub(crate) fn end_serve<O: Sink>(out: &mut O, ending: ServeEnding, service: &Ser
     ensures { IsPrintedOrCut (line_of_serve service.now ending) (status_of_serve ending)
         (O.seen out.old) (O.seen out.new) result }
 {
-    match print_serve(out, ending, service) {
-        Ok(()) => ending.status(),
-        Err(Failed) => 9,
-    }
+    end_with(print_serve(out, ending, service), ending.status())
 }
 
 /// Ends with how a log was followed.
@@ -55,10 +57,7 @@ pub(crate) fn end_follow<O: Sink>(out: &mut O, ending: FollowEnding, name: &[u8]
     ensures { IsPrintedOrCut (line_of_follow name.now ending) (status_of_follow ending)
         (O.seen out.old) (O.seen out.new) result }
 {
-    match print_follow(out, ending, name) {
-        Ok(()) => ending.status(),
-        Err(Failed) => 9,
-    }
+    end_with(print_follow(out, ending, name), ending.status())
 }
 
 /// Ends with how a transcript was verified.
@@ -66,10 +65,7 @@ pub(crate) fn end_verify<O: Sink>(out: &mut O, ending: VerifyEnding, names: &Ver
     ensures { IsPrintedOrCut (line_of_verify names.now ending) (status_of_verify ending)
         (O.seen out.old) (O.seen out.new) result }
 {
-    match print_verify(out, ending, names) {
-        Ok(()) => ending.status(),
-        Err(Failed) => 9,
-    }
+    end_with(print_verify(out, ending, names), ending.status())
 }
 
 /// Ends with how a check ended.
@@ -77,8 +73,5 @@ pub(crate) fn end_check<O: Sink>(out: &mut O, ending: CheckEnding, names: &Check
     ensures { IsPrintedOrCut (line_of_check names.now ending) (status_of_check ending)
         (O.seen out.old) (O.seen out.new) result }
 {
-    match print_check(out, &ending, names) {
-        Ok(()) => ending.status(),
-        Err(Failed) => 9,
-    }
+    end_with(print_check(out, &ending, names), ending.status())
 }
