@@ -18,34 +18,33 @@ use kn_tcp::TcpNet;
 use std::process::ExitCode;
 
 fn main(rt: HostRuntime) -> ExitCode {
-    let mut words = words::words(&rt);
+    let mut out = StdOut::new(rt.stdout());
     let timeout = match idle_timeout(&rt) {
         Ok(timeout) => timeout,
         Err(IdleFault::NoMemory) => {
-            words = Err(NoMemory);
-            None
+            return ExitCode::from(endings::end(&mut out, InputFault::Memory));
         }
         Err(IdleFault::NoNumber) => {
             let _ = eprintln!(rt; "keynoted: KEYNOTED_IDLE_SECONDS isn't a number from 1 to 86400");
             return ExitCode::from(1);
         }
     };
+    let words = match words::words(&rt) {
+        Ok(words) => words,
+        Err(NoMemory) => return ExitCode::from(endings::end(&mut out, InputFault::Memory)),
+    };
     let mut files = RealFiles::new(rt);
     let mut net = TcpNet::new(rt, timeout);
     let mut own = StdLink::new(rt.stdin(), rt.stdout());
-    let mut out = StdOut::new(rt.stdout());
-    let status = match words {
-        Ok(words) => run::run(
-            &rt,
-            rt.alloc(),
-            words.as_slice(),
-            &mut files,
-            &mut net,
-            &mut own,
-            &mut out,
-            &Passing,
-        ),
-        Err(NoMemory) => endings::end(&mut out, InputFault::Memory),
-    };
+    let status = run::run(
+        &rt,
+        rt.alloc(),
+        words.as_slice(),
+        &mut files,
+        &mut net,
+        &mut own,
+        &mut out,
+        &Passing,
+    );
     ExitCode::from(status)
 }
