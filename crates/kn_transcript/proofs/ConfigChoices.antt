@@ -27,19 +27,9 @@ pub record IsRefusal (g : DaemonConfig) (past : List Update) (old : State) (shap
 
 -- whether a reply says that the request was accepted
 abbrev pub is_acceptance : Reply → Bool
-is_acceptance Done = true
-is_acceptance (Started s version) = true
-is_acceptance (Number version) = true
-is_acceptance (PrivateAdded k) = true
-is_acceptance (Added k version) = true
-is_acceptance (Value index name version rows) = true
-is_acceptance (Batched first added version) = true
-is_acceptance (PinnedAt version newest) = true
-is_acceptance (Log n history) = true
-is_acceptance (News index name version) = true
-is_acceptance (Critical index ids) = true
 is_acceptance (No refusal) = false
 is_acceptance NoMemory = false
+is_acceptance reply = true
 
 -- a request is refused, accepted, or runs out of memory
 pub permits_cases : (g : DaemonConfig) (caller : ℕ) (past : List Update) (old : State) (shape : Shape) (reply : Reply)

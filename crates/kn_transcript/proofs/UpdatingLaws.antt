@@ -42,10 +42,6 @@ store_told found fault told due (inl none) is some =
     absurd (let gone = is ∙ ap refusal_of_store none in cc (gone, some))
 store_told found fault told due (inr same) is some = ap (option_and_then refusal_of_store) same ∙ sym is ∙ some
 
--- one found fault, and no fault
-both_found : {X : Type 0} (o : Option X) (x : X) → o ≡ Some x → o ≡ None → ⊥
-both_found o x some none = cc (some, none)
-
 -- a refusal told is one that is found
 found_by : (found : Option StoreFault) (due : Refusal) → option_and_then refusal_of_store found ≡ Some due
     → found ≡ None → ⊥

@@ -4,7 +4,6 @@ use Rattle.std.proofs.Common.{arith, subst, inl, inr, length-append}
 use Rattle.std.specs.Prelude.{Result, Ok, Err, IfOk, IfErr}
 use Rattle.std.specs.List.{list_any}
 use Rattle.std.proofs.lemmas.List.{length-map, length_push}
-use Rattle.std.proofs.lemmas.List.Sums.{count_by-le-length}
 use Rattle.kn_base.specs.declared.limits.TheConstants.{REQUESTS}
 use Rattle.kn_history.specs.declared.update.Update.{Update}
 use Rattle.kn_wire.specs.Requests.{Request}
@@ -19,7 +18,7 @@ use Rattle.kn_transcript.specs.declared.fault.TranscriptFault.TheVariants as F
 use Rattle.kn_transcript.specs.declared.progress.Progress.{Progress}
 use Rattle.kn_transcript.specs.declared.verifying.Verified.{Verified}
 use Rattle.kn_transcript.specs.Followed.{Answered}
-use Rattle.kn_transcript.specs.Accepted.{IsFollowed, IsAcceptedTranscript, is_value, requests_in, text_in}
+use Rattle.kn_transcript.specs.Accepted.{IsFollowed, IsAcceptedTranscript, requests_in, text_in}
 use Rattle.kn_transcript.specs.Faulty.{IsReached, IsJudged, IsFaultyTranscript}
 use Rattle.kn_transcript.specs.Judging.{state_of, HasRoom}
 use Rattle.kn_transcript.specs.Progress.{IsAnsweredBy, IsFaultAt, AreMeant, HasComeTo, IsBeingVerified, IsConcluded}
@@ -96,12 +95,6 @@ module _ (past : List Update) (script replies : List ℕ) where
       omega (arith, size, few),
       follows-small past answered old.book (state_of old.connection) v.come.follows,
     )
-
-    pub few-answers : old.answers < count + 1
-    few-answers =
-        let values = v.come.values in
-        let most = count_by-le-length (λ (a : Answered). is_value a.reply) answered in
-        omega (arith, values, most, size)
 
     pub shorter : length old.left.now ≤ length replies
     shorter = let sizes = ap length v.come.texts ∙ length-append (text_in answered) old.left.now in omega (arith, sizes)

@@ -5,8 +5,7 @@ use Rattle.kn_base.specs.declared.limits.TheConstants.{REQUESTS}
 use Rattle.kn_history.specs.declared.update.Update.{Update}
 use Rattle.kn_wire.specs.Requests.{Request, AreRequests}
 use Rattle.kn_session.specs.Calls.{Call, Unwatch}
-use Rattle.kn_reply.specs.Replies.{Reply, Done, Started, Number, PrivateAdded, Added, Value, Batched, PinnedAt}
-use Rattle.kn_reply.specs.Replies.{Log as Logged, News as Told, Critical as Needs, No, NoMemory, reply_text}
+use Rattle.kn_reply.specs.Replies.{Reply, Value, reply_text}
 use Rattle.kn_reply_reader.specs.Texts.{HasText}
 use Rattle.kn_daemon.specs.Daemon.{State, first_state}
 use Rattle.kn_daemon.specs.Shapes.{Shape, Calls, Updates, Looks, Asks, Controls, AtFault, ForNew, ForOpen, ForRetained}
@@ -49,19 +48,8 @@ abbrev pub meant_of : List Request → List Request
 meant_of requests = take REQUESTS (up_to_end requests)
 
 abbrev pub is_value : Reply → Bool
-is_value Done = false
-is_value (Started s version) = false
-is_value (Number version) = false
-is_value (PrivateAdded k) = false
-is_value (Added k version) = false
 is_value (Value index name version rows) = true
-is_value (Batched first added version) = false
-is_value (PinnedAt version newest) = false
-is_value (Logged n history) = false
-is_value (Told index name version) = false
-is_value (Needs index ids) = false
-is_value (No refusal) = false
-is_value NoMemory = false
+is_value reply = false
 
 abbrev pub requests_in : List Answered → List Request
 requests_in answered = map (λ a. a.request) answered
