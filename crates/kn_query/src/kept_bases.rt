@@ -190,7 +190,8 @@ fn answer_in_place(
 
 // Whether there is a base, and of the version of this number.
 fn has_number(kept: &Option<SharedBase>, number: u32) -> bool
-    ensures { result ≡ true → IfSome kept.now (λ shared. shared.number ≡ number) }
+    ensures is { result ≡ true → IfSome kept.now (λ shared. shared.number ≡ number) }
+    ensures all { IfSome kept.now (λ shared. shared.number ≡ number → result ≡ true) }
 {
     match kept {
         Some(shared) => shared.number() == number,
