@@ -16,12 +16,14 @@ use Rattle.kn_system.specs.Least.{at_first, least_levels}
 use Rattle.kn_system.specs.Proofs.{IsProof}
 use Rattle.kn_settle.specs.QuerySystem.{query_system, IsOther}
 use Rattle.kn_settle.proofs.QuerySystems.{length-capped, length-flags, query_system-system}
-use Rattle.kn_answer.specs.Numbering.{IsSystemOf}
+use Rattle.kn_rows.specs.Numbering.{IsSystemOf}
 use Rattle.kn_answer.specs.Built.{Interned}
 use Rattle.kn_answer.specs.Located.{AreLocated, AreOfSystem, IsOfSystem}
 use Rattle.kn_answer.specs.Removed.{capped_statements, kept_of, live_parts, query_equations}
-use Rattle.kn_answer.specs.Based.{AreNumbersOf, IsBaseOf, ceilings_of}
-use Rattle.kn_answer.proofs.BaseSystems.{bases-state, ids-kept, length-base, live-kept, others-numbered}
+use Rattle.kn_rows.specs.BaseRows.{AreNumbersOf, IsBaseOf}
+use Rattle.kn_answer.specs.Based.{ceilings_of}
+use Rattle.kn_answer.proofs.BaseSystems.{bases-state, ids-kept, live-kept, others-numbered}
+use Rattle.kn_rows.proofs.BaseRows.{length-base}
 use Rattle.kn_answer.proofs.NamedLevels.{IsPolicyLevel-by_name}
 use Rattle.kn_answer.proofs.Capped.{ceilings-low, length-ceilings}
 use Rattle.kn_answer.proofs.RowLists.{AreOfSystem-steps, level-most}

@@ -1,6 +1,6 @@
 -- A base is the system of each query over the assertions that it keeps.
 use Rattle.std.proofs.Common.{◌≡◌, ℕ, zero, suc, ◌+◌, ◌-◌, ◌<◌, ◌||◌, Bool, true, false, cond, eqb, All, Some, List, []}
-use Rattle.std.proofs.Common.{◌∷◌, ◌++◌, length, map, get_or, slice_get, slice_index, refl, sym, ap, ◌∙◌, inl, inr}
+use Rattle.std.proofs.Common.{◌∷◌, length, map, get_or, slice_get, slice_index, refl, sym, ap, ◌∙◌, inl, inr}
 use Rattle.std.proofs.Common.{arith, true≢false}
 use Rattle.std.specs.List.{list_any}
 use Rattle.std.specs.Str.{bytes_eq}
@@ -10,19 +10,17 @@ use Rattle.std.proofs.lemmas.List.{ext_get_or, get_or-map, length-map}
 use Rattle.std.proofs.lemmas.List.Elements.{All-nil, All-cons}
 use Rattle.std.proofs.lemmas.Option.{slice_get-get_or, slice_get_within}
 use Rattle.kn_principal.specs.Principals.{policy}
-use Rattle.kn_trees.specs.declared.assertion.Assertion.{Assertion}
 use Rattle.kn_env.specs.Environment.{Asked}
 use Rattle.kn_meaning.specs.Equations.{Part, statement_of}
 use Rattle.kn_system.specs.Rows.{SystemRow}
 use Rattle.kn_settle.specs.QuerySystem.{capped_from, flags_from, is_among, IsOther}
 use Rattle.kn_settle.proofs.QuerySystems.{flag-at, length-flags}
-use Rattle.kn_answer.specs.Numbering.{AreDistinct, AreRowsOf, HaveNumbers, IsNumber}
-use Rattle.kn_answer.specs.Extending.{Keeps}
+use Rattle.kn_rows.specs.Numbering.{AreDistinct, AreRowsOf, HaveNumbers, IsNumber}
+use Rattle.kn_rows.specs.BaseRows.{AreBaseRows, AreNumbersOf}
+use Rattle.kn_rows.proofs.Names.{bytes_eq-same, bytes_eq-true}
 use Rattle.kn_answer.specs.Removed.{Kept, capped_statement, capped_statements, kept_of, live_parts, live_statements}
-use Rattle.kn_answer.specs.Based.{AreBaseRows, AreNumbersOf, BasesStateQueries, IsBaseRow, ceilings_of}
-use Rattle.kn_answer.proofs.NamedLevels.{bytes_eq-same, bytes_eq-true}
+use Rattle.kn_answer.specs.Based.{BasesStateQueries, ceilings_of}
 use Rattle.kn_answer.proofs.ProofLevels.{neither}
-use Rattle.kn_answer.proofs.NewNames.{ArePiecesOf-kept}
 
 -- from the i-th on these are the ceilings of the statements
 abbrev AreCeilings : List ℕ → ℕ → List Kept → Type 0
@@ -138,55 +136,6 @@ ids-kept asked [] live size = refl
 ids-kept asked (part ∷ parts) [] size = absurd (omega (arith, size))
 ids-kept asked (part ∷ parts) (flag ∷ live) size =
     ap (λ ids. part.id ∷ ids) (ids-kept asked parts live (omega (arith, size)))
-
-pub length-base : (names : List (List ℕ)) (parts : List Part) (rows : List SystemRow) → AreBaseRows names parts rows
-    → length parts ≡ length rows
-length-base names [] [] are = refl
-length-base names [] (row ∷ rows) are = absurd are
-length-base names (part ∷ parts) [] are = absurd are
-length-base names (part ∷ parts) (row ∷ rows) are = ap suc (length-base names parts rows are.1)
-
--- rows stay those of the assertions where names keep their numbers
-pub IsBaseRow-kept : (old new : List (List ℕ)) → Keeps old new → (assertion : Assertion) (row : SystemRow)
-    → IsBaseRow old assertion row → IsBaseRow new assertion row
-IsBaseRow-kept old new keeps assertion row is = record {
-  authorizer = keeps row.authorizer assertion.authorizer is.authorizer;
-  pieces = ArePiecesOf-kept old new keeps _ row.formula is.pieces;
-  licensees = λ top at levels have. is.licensees top at levels (λ p name here. have p name (keeps p name here));
-}
-
-pub AreBaseRows-kept : (old new : List (List ℕ)) → Keeps old new → (parts : List Part) (rows : List SystemRow)
-    → AreBaseRows old parts rows → AreBaseRows new parts rows
-AreBaseRows-kept old new keeps [] [] are = tt
-AreBaseRows-kept old new keeps [] (row ∷ rows) are = absurd are
-AreBaseRows-kept old new keeps (part ∷ parts) [] are = absurd are
-AreBaseRows-kept old new keeps (part ∷ parts) (row ∷ rows) are =
-    (IsBaseRow-kept old new keeps part.assertion row are.0, AreBaseRows-kept old new keeps parts rows are.1)
-
-pub AreBaseRows-longer : (names : List (List ℕ)) (parts : List Part) (rows : List SystemRow)
-    → AreBaseRows names parts rows → (part : Part) (row : SystemRow) → IsBaseRow names part.assertion row
-    → AreBaseRows names (parts ++ part ∷ []) (rows ++ row ∷ [])
-AreBaseRows-longer names [] [] are part row is = (is, tt)
-AreBaseRows-longer names [] (r ∷ rows) are part row is = absurd are
-AreBaseRows-longer names (p ∷ parts) [] are part row is = absurd are
-AreBaseRows-longer names (p ∷ parts) (r ∷ rows) are part row is =
-    (are.0, AreBaseRows-longer names parts rows are.1 part row is)
-
--- numbers stay those of the principals
-pub AreNumbersOf-kept : (old new : List (List ℕ)) → Keeps old new → (principals : List (List ℕ)) (numbers : List ℕ)
-    → AreNumbersOf old principals numbers → AreNumbersOf new principals numbers
-AreNumbersOf-kept old new keeps [] [] are = tt
-AreNumbersOf-kept old new keeps [] (p ∷ ps) are = absurd are
-AreNumbersOf-kept old new keeps (r ∷ rs) [] are = absurd are
-AreNumbersOf-kept old new keeps (r ∷ rs) (p ∷ ps) are = (keeps p r are.0, AreNumbersOf-kept old new keeps rs ps are.1)
-
-pub AreNumbersOf-longer : (names : List (List ℕ)) (principals : List (List ℕ)) (numbers : List ℕ)
-    → AreNumbersOf names principals numbers → (name : List ℕ) (p : ℕ) → IsNumber names name p
-    → AreNumbersOf names (principals ++ name ∷ []) (numbers ++ p ∷ [])
-AreNumbersOf-longer names [] [] are name p is = (is, tt)
-AreNumbersOf-longer names [] (q ∷ qs) are name p is = absurd are
-AreNumbersOf-longer names (r ∷ rs) [] are name p is = absurd are
-AreNumbersOf-longer names (r ∷ rs) (q ∷ qs) are name p is = (are.0, AreNumbersOf-longer names rs qs are.1 name p is)
 
 -- requesters are others than the policy
 pub others-numbered : (names : List (List ℕ)) (n : ℕ) → length names ≡ n → IsNumber names policy 0

@@ -7,7 +7,7 @@ use Rattle.kn_trees.specs.declared.assertion.Assertion.{Assertion}
 use Rattle.kn_env.specs.Environment.{Asked}
 use Rattle.kn_cond.specs.Programs.{field_value}
 use Rattle.kn_meaning.specs.Equations.{Part, statement_of}
-use Rattle.kn_answer.specs.Numbering.{IsNumber}
+use Rattle.kn_rows.specs.Numbering.{IsNumber}
 use Rattle.kn_answer.specs.Removed.{live_parts}
 use Rattle.kn_answer.specs.Based.{capped_values, ceilings_of, condition_values}
 use Rattle.kn_answer.proofs.BaseSystems.{length-kept}

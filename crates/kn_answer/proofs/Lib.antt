@@ -1,13 +1,4 @@
-pub mod Texts
-pub mod FormulaPieces
-pub mod NarrowedPieces
-pub mod SizesAdded
-pub mod NodeSums
-pub mod FormulaFolds
-pub mod Pieces
 pub mod NamedLevels
-pub mod NamesAdded
-pub mod NewNames
 pub mod ProofLevels
 pub mod StatementRows
 pub mod Located
@@ -16,7 +7,6 @@ pub mod Removing
 pub mod BaseSystems
 pub mod ConditionBounds
 pub mod Capped
-pub mod RowsOfAssertions
 pub mod AnswersOfBases
 pub mod LongerBases
 pub mod NarrowedFormulas

@@ -13,15 +13,14 @@ use Rattle.kn_meaning.specs.Proofs as proof
 use Rattle.kn_system.specs.Equations.{row_at}
 use Rattle.kn_system.specs.Least.{worth, at_first}
 use Rattle.kn_system.specs.Proofs.{levels_after, IsStep, AreSteps, IsProof}
-use Rattle.kn_answer.specs.Numbering.{IsNumber, AreDistinct}
+use Rattle.kn_rows.specs.Numbering.{IsNumber, AreDistinct}
+use Rattle.kn_rows.proofs.NewNames.{AreNumbered-length}
 use Rattle.kn_answer.specs.Built.{Interned}
 use Rattle.kn_answer.specs.Located.{IsFound, IsLocated, AreLocated}
-use Rattle.kn_answer.proofs.NewNames.{AreNumbered-length}
 use Rattle.kn_answer.proofs.ProofLevels.{row_level-none, row_level-zero, HaveFollowed, HaveFollowed-none}
 use Rattle.kn_answer.proofs.ProofLevels.{HaveFollowed-row}
 use Rattle.kn_answer.proofs.StatementRows.{IsStated, IsAt, at-statement, at-row, worth-at, flag-at, rows-few}
-use Rattle.kn_answer.proofs.StatementRows.{closed-named}
-use Rattle.kn_answer.proofs.StatementRows.{closed-numbered}
+use Rattle.kn_answer.proofs.StatementRows.{closed-named, closed-numbered}
 
 -- a number in range is that of the item
 pub found-within : {A : Type 0} (items : List A) (item : A) (p : ℕ) → IsFound items item p → p < 2 ^ 32 - 1

@@ -9,9 +9,9 @@ use Rattle.kn_trees.specs.declared.assertion.Assertion.{Assertion}
 use Rattle.kn_meaning.specs.Equations.{Part}
 use Rattle.kn_system.specs.Rows.{SystemRow}
 use Rattle.kn_system.specs.Equations.{IsRowOver, IsSystemRow}
-use Rattle.kn_answer.specs.declared.numbered.Numbered.{Numbered}
-use Rattle.kn_answer.specs.Numbering.{IsNumber, with_name, with_names}
-use Rattle.kn_answer.specs.Extending.{AddsRow, Keeps}
+use Rattle.kn_rows.specs.declared.numbered.Numbered.{Numbered}
+use Rattle.kn_rows.specs.Numbering.{IsNumber, with_name, with_names}
+use Rattle.kn_rows.specs.Extending.{AddsRow, Keeps}
 use Rattle.kn_answer.specs.Removed.{live_parts}
 use Rattle.kn_answer.specs.Based.{BaseView, GoesOn}
 use Rattle.kn_answer.proofs.Capped.{live-all}

@@ -1,7 +1,7 @@
 -- The least levels of a system over numbers are those of the query over named principals that it stands for.
-use Rattle.std.proofs.Common.{◌≡◌, ℕ, suc, zero, ◌+◌, ◌-◌, ◌<◌, ◌≤◌, ◌⊎◌, Bool, true, false, cond, eqb, List, [], ◌∷◌}
+use Rattle.std.proofs.Common.{◌≡◌, ℕ, suc, zero, ◌+◌, ◌-◌, ◌<◌, ◌≤◌, ◌⊎◌, Bool, false, cond, eqb, List, [], ◌∷◌}
 use Rattle.std.proofs.Common.{slice_get, slice_index, get_or, length, map, max, Some, inl, inr, refl, sym, ap, ◌∙◌}
-use Rattle.std.proofs.Common.{arith, true≢false}
+use Rattle.std.proofs.Common.{arith}
 use Rattle.std.specs.Str.{bytes_eq}
 use Rattle.std.proofs.lemmas.Bool.{cases_lt, eqb-true, eq-eqb, false_from_ne_true}
 use Rattle.std.proofs.lemmas.Slice.Eq.{bytes_eq-Decides}
@@ -19,33 +19,8 @@ use Rattle.kn_system.specs.Form.{form_level}
 use Rattle.kn_system.specs.Least.{worth, highest_worth, round_at, round_from, round}
 use Rattle.kn_system.specs.Lawful.{IsLeast}
 use Rattle.kn_system.specs.Order.{Below}
-use Rattle.kn_answer.specs.Numbering.{IsNumber, IsAbsent, AreDistinct, HaveLevels, IsRowOf, AreRowsOf, IsSystemOf}
-
--- texts that are equal pass the test, and no others
-pub bytes_eq-same : (name other : List ℕ) → name ≡ other → bytes_eq name other ≡ true
-bytes_eq-same name other e = (bytes_eq-Decides name other).1 e
-
-pub bytes_eq-true : (name other : List ℕ) → bytes_eq name other ≡ true → name ≡ other
-bytes_eq-true name other e = (bytes_eq-Decides name other).0 e
-
--- a name with its number, or none
-pub number_or_none : (names : List (List ℕ)) (name : List ℕ) → ((p : ℕ) × IsNumber names name p) ⊎ IsAbsent names name
-number_or_none [] name = inr (λ p e. none_here name p e)
-  where
-    none_here : (name : List ℕ) (p : ℕ) → IsNumber [] name p → ⊥
-    none_here name p e = let within : p < 0 = slice_get_within [] p name e in omega arith
-number_or_none (n ∷ names) name = by (bytes_eq n name) refl (number_or_none names name)
-  where
-    behind : bytes_eq n name ≡ false → IsAbsent names name → (p : ℕ) → IsNumber (n ∷ names) name p → ⊥
-    behind differs none zero e = let same : n ≡ name = cc in
-        absurd (true≢false (sym (bytes_eq-same n name same) ∙ differs))
-    behind differs none (suc p) e = none p e
-
-    by : (b : Bool) → bytes_eq n name ≡ b → ((p : ℕ) × IsNumber names name p) ⊎ IsAbsent names name
-        → ((p : ℕ) × IsNumber (n ∷ names) name p) ⊎ ((p : ℕ) → IsNumber (n ∷ names) name p → ⊥)
-    by true e rest = inl (0, ap Some (bytes_eq-true n name e))
-    by false e (inl number) = inl (suc number.0, number.1)
-    by false e (inr none) = inr (behind e none)
+use Rattle.kn_rows.specs.Numbering.{IsNumber, IsAbsent, AreDistinct, HaveLevels, IsRowOf, AreRowsOf, IsSystemOf}
+use Rattle.kn_rows.proofs.Names.{bytes_eq-true, number_or_none}
 
 -- whether a principal has a number, with it
 abbrev pub MayHave : List (List ℕ) → List ℕ → Type 0

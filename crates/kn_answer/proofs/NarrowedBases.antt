@@ -9,17 +9,17 @@ use Rattle.kn_principal.specs.Principals.{policy}
 use Rattle.kn_env.specs.Environment.{Asked}
 use Rattle.kn_meaning.specs.Equations.{Part, statement_of}
 use Rattle.kn_system.specs.Equations.{SystemEquations, node_total}
-use Rattle.kn_answer.specs.declared.numbered.Numbered.{Numbered}
-use Rattle.kn_answer.specs.Numbering.{AreDistinct, HaveNumbers, IsNumber, with_name, with_names}
-use Rattle.kn_answer.specs.Based.{AreBaseRows, IsBaseOf, condition_values}
-use Rattle.kn_answer.specs.Extending.{AddsNarrowedRow}
+use Rattle.kn_rows.specs.declared.numbered.Numbered.{Numbered}
+use Rattle.kn_rows.specs.Numbering.{AreDistinct, HaveNumbers, IsNumber, with_name, with_names}
+use Rattle.kn_rows.specs.BaseRows.{AreBaseRows, IsBaseOf}
+use Rattle.kn_rows.specs.Extending.{AddsNarrowedRow}
+use Rattle.kn_rows.specs.Sizes.{size_of}
+use Rattle.kn_rows.proofs.BaseRows.{AreBaseRows-longer}
+use Rattle.kn_rows.proofs.Names.{bytes_eq-true, number_or_none, absent-among, or_as_true, true_or}
+use Rattle.kn_rows.proofs.SizesAdded.{node_total-longer}
+use Rattle.kn_answer.specs.Based.{condition_values}
 use Rattle.kn_answer.specs.Narrowed.{leveled, narrowed, narrowed_part}
-use Rattle.kn_answer.specs.Sizes.{size_of}
-use Rattle.kn_answer.proofs.BaseSystems.{AreBaseRows-longer}
-use Rattle.kn_answer.proofs.NamedLevels.{bytes_eq-true, number_or_none}
-use Rattle.kn_answer.proofs.NamesAdded.{absent-among, or_as_true, true_or}
 use Rattle.kn_answer.proofs.NarrowedFormulas.{narrowed_by_members}
-use Rattle.kn_answer.proofs.SizesAdded.{node_total-longer}
 
 or_none : (a : Bool) → a ≡ (a || false)
 or_none true = refl

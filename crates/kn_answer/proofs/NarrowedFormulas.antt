@@ -19,7 +19,8 @@ use Rattle.kn_meaning.specs.Equations.{Part, licensees_level}
 use Rattle.kn_meaning.proofs.Walks.{formula_level_who, formula_level_all, formula_level_any, formula_level_threshold}
 use Rattle.kn_system.specs.Order.{Below}
 use Rattle.kn_system.proofs.Thresholds.{threshold-carried}
-use Rattle.kn_answer.specs.Narrowed.{narrowed_step, narrowed_formula, narrowed_part}
+use Rattle.kn_rows.specs.Narrowing.{narrowed_step, narrowed_formula}
+use Rattle.kn_answer.specs.Narrowed.{narrowed_part}
 
 -- the level of a formula by its parts
 formula_level-roll : (top : ℕ) (at : Levels) (x : Formula-F Formula)

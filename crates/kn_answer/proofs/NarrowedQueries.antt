@@ -15,8 +15,8 @@ use Rattle.kn_meaning.specs.Formulas.{Levels}
 use Rattle.kn_meaning.specs.Equations.{Equations, Part, Statement, statement_of, equations_over, worth}
 use Rattle.kn_meaning.specs.Equations.{highest_worth, is_requester, round, IsPolicyLevel}
 use Rattle.kn_meaning.specs.Proofs.{row_level, levels_by, Supports, IsRow, AreRows, IsProof}
-use Rattle.kn_answer.specs.Narrowed.{leveled, narrowed_part, narrowed, NarrowedAreSame}
-use Rattle.kn_answer.proofs.NamedLevels.{bytes_eq-same, bytes_eq-true}
+use Rattle.kn_rows.proofs.Names.{bytes_eq-same, bytes_eq-true}
+use Rattle.kn_answer.specs.Narrowed.{leveled, narrowed, NarrowedAreSame, narrowed_part}
 use Rattle.kn_answer.proofs.NarrowedFormulas.{levels_among, levels_among-all, levels_among-below}
 use Rattle.kn_answer.proofs.NarrowedFormulas.{licensees_level-narrowed, licensees_level-below}
 use Rattle.kn_answer.proofs.Removing.{any-there}

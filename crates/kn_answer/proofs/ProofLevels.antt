@@ -14,8 +14,9 @@ use Rattle.kn_meaning.specs.Equations.{Equations, is_requester}
 use Rattle.kn_meaning.specs.Proofs.{row_level, levels_by}
 use Rattle.kn_system.specs.Equations.{SystemEquations}
 use Rattle.kn_system.specs.Least.{at_first}
-use Rattle.kn_answer.specs.Numbering.{IsNumber, AreDistinct, HaveLevels, IsSystemOf}
-use Rattle.kn_answer.proofs.NamedLevels.{bytes_eq-same, bytes_eq-true, map-have}
+use Rattle.kn_rows.specs.Numbering.{IsNumber, AreDistinct, HaveLevels, IsSystemOf}
+use Rattle.kn_rows.proofs.Names.{bytes_eq-same, bytes_eq-true}
+use Rattle.kn_answer.proofs.NamedLevels.{map-have}
 
 -- neither of two is true
 pub neither : (a b : Bool) → (a || b) ≡ false → (a ≡ false) × (b ≡ false)

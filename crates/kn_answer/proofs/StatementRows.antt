@@ -14,9 +14,8 @@ use Rattle.kn_system.specs.Equations.{SystemEquations, IsSystemRow, IsSystem, ro
 use Rattle.kn_system.specs.Forms.{AreForms}
 use Rattle.kn_system.specs.Least.{worth}
 use Rattle.kn_system.specs.Proofs.{IsClosed}
-use Rattle.kn_answer.specs.Numbering.{IsNumber, HaveLevels, IsRowOf, AreRowsOf}
+use Rattle.kn_rows.specs.Numbering.{IsNumber, HaveLevels, IsRowOf, AreRowsOf, IsSystemOf}
 use Rattle.kn_answer.specs.Built.{Interned, IsBuilt}
-use Rattle.kn_answer.specs.Numbering.{IsSystemOf}
 use Rattle.kn_answer.proofs.NamedLevels.{worth-same}
 
 -- The system states what the query does, and each row has the id of its statement.

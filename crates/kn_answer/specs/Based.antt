@@ -1,15 +1,13 @@
 -- What a base is for assertions: built without a query, it is the system of each query with the query's requesters and
 -- ceilings (keynoted's own).
 use Rattle.std.specs.Prelude.{ℕ, ◌≡◌, ◌-◌, ◌≤◌, Bool, List, [], ◌∷◌, length, map, take, if◌then◌else◌}
-use Rattle.kn_principal.specs.Principals.{policy}
-use Rattle.kn_trees.specs.declared.assertion.Assertion.{Assertion}
 use Rattle.kn_env.specs.Environment.{Asked}
 use Rattle.kn_meaning.specs.Equations.{Part, equations_over, statement_of}
 use Rattle.kn_meaning.specs.Critical.{equation_nodes}
-use Rattle.kn_system.specs.Rows.{SystemRow}
 use Rattle.kn_system.specs.Equations.{SystemEquations, node_total}
 use Rattle.kn_settle.specs.QuerySystem.{query_system}
-use Rattle.kn_answer.specs.Numbering.{AreDistinct, ArePiecesOf, IsNumber, IsSystemOf, SpellLicensees, licensees_pieces}
+use Rattle.kn_rows.specs.Numbering.{IsSystemOf}
+use Rattle.kn_rows.specs.BaseRows.{AreNumbersOf, IsBaseOf}
 use Rattle.kn_answer.specs.Removed.{capped_statement, capped_statements, kept_of, query_equations}
 
 -- the names of a base's principals, each at its number, its system, and for each row whether its assertion is still
@@ -19,36 +17,10 @@ pub record BaseView : Type 0 where
   pub system : SystemEquations
   pub live : List Bool
 
--- the row has the assertion's authorizer and licensees; its ceiling is of no matter
-pub record IsBaseRow (names : List (List ℕ)) (assertion : Assertion) (row : SystemRow) : Type 0 where
-  pub authorizer : IsNumber names assertion.authorizer row.authorizer
-  pub pieces : ArePiecesOf names (licensees_pieces assertion.licensees) row.formula
-  pub licensees : (top : ℕ) → SpellLicensees top names assertion.licensees row.formula
-
--- one row for each assertion, in their order
-abbrev pub AreBaseRows : List (List ℕ) → List Part → List SystemRow → Type 0
-AreBaseRows names [] [] = Unit {0}
-AreBaseRows names [] (row ∷ rows) = ⊥
-AreBaseRows names (part ∷ parts) [] = ⊥
-AreBaseRows names (part ∷ parts) (row ∷ rows) = IsBaseRow names part.assertion row × AreBaseRows names parts rows
-
--- one row for each assertion, over principals of which the policy has number 0 and none has two
-pub record IsBaseOf (parts : List Part) (names : List (List ℕ)) (base : SystemEquations) : Type 0 where
-  pub first : IsNumber names policy 0
-  pub distinct : AreDistinct names
-  pub rows : AreBaseRows names parts base.rows
-
 -- The first principals of a base are those of another one, under their numbers, and its first rows are the other's.
 pub record GoesOn (old new : BaseView) : Type 0 where
   pub names : take (length old.names) new.names ≡ old.names
   pub rows : take (length old.system.rows) new.system.rows ≡ old.system.rows
-
--- these are the numbers of the principals, in their order
-abbrev pub AreNumbersOf : List (List ℕ) → List (List ℕ) → List ℕ → Type 0
-AreNumbersOf names [] [] = Unit {0}
-AreNumbersOf names [] (p ∷ ps) = ⊥
-AreNumbersOf names (r ∷ rs) [] = ⊥
-AreNumbersOf names (r ∷ rs) (p ∷ ps) = IsNumber names r p × AreNumbersOf names rs ps
 
 -- the ceilings of a base's rows in a query, 0 for those of assertions that were removed
 abbrev pub ceilings_of : Asked → List Part → List Bool → List ℕ

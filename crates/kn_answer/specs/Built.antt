@@ -4,7 +4,7 @@ use Rattle.kn_proof.specs.declared.named.Id.{Id}
 use Rattle.kn_meaning.specs.Equations.{Equations}
 use Rattle.kn_meaning.specs.Occurring.{occurring}
 use Rattle.kn_system.specs.Equations.{SystemEquations, IsSystem}
-use Rattle.kn_answer.specs.Numbering.{AreNamesOf, IsSystemOf}
+use Rattle.kn_rows.specs.Numbering.{AreNamesOf, IsSystemOf}
 
 -- the names of the principals and the ids of the rows, each at its number
 pub record Interned : Type 0 where

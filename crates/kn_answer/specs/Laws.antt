@@ -5,7 +5,7 @@ use Rattle.kn_proof.specs.declared.row.Row.{Row}
 use Rattle.kn_meaning.specs.Equations.{Equations}
 use Rattle.kn_meaning.specs.Proofs as named
 use Rattle.kn_system.specs.Proofs.{IsProof}
-use Rattle.kn_answer.specs.Numbering.{AreDistinct}
+use Rattle.kn_rows.specs.Numbering.{AreDistinct}
 use Rattle.kn_answer.specs.Built.{Interned, IsBuilt}
 use Rattle.kn_answer.specs.Located.{AreLocated}
 

@@ -3,7 +3,7 @@ use Rattle.std.specs.Prelude.{ℕ, ◌≡◌, ◌-◌, ◌^◌, ◌<◌, ◌⊎�
 use Rattle.kn_proof.specs.declared.named.NamedRow.{NamedRow}
 use Rattle.kn_proof.specs.declared.row.Row.{Row}
 use Rattle.kn_system.specs.Equations.{SystemEquations}
-use Rattle.kn_answer.specs.Numbering.{IsNumber, IsAbsent}
+use Rattle.kn_rows.specs.Numbering.{IsNumber, IsAbsent}
 use Rattle.kn_answer.specs.Built.{Interned}
 
 -- the item has this number, or it has none and this is the greatest u32

@@ -2,12 +2,13 @@
 ghost use Rattle.std.specs.Prelude.{◌<◌, length, IfOk};
 ghost use Rattle.kn_meaning.specs.Equations.{IsPolicyLevel, equations_over};
 ghost use Rattle.kn_meaning.specs.Proofs.{IsProof};
-ghost use Rattle.kn_answer.specs.Sizes.{HaveTexts};
+ghost use Rattle.kn_rows.specs.Sizes.{HaveTexts};
 
 use crate::base::Base;
-use crate::types::{Answer, Part};
+use crate::types::Answer;
 use kn_base::{List, NoMemory};
 use kn_env::Query;
+use kn_rows::Part;
 use std::alloc::Global;
 
 /// The compliance value of a query (RFC 2704, section 5), with a proof of it by names (keynoted's own). Its assertions

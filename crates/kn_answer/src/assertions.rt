@@ -1,11 +1,11 @@
 //! The assertions of a base, lent to an answer.
 ghost use Rattle.std.specs.Prelude.{◌<◌, length, map};
-ghost use Rattle.kn_answer.specs.Numbering.{IsNumber};
+ghost use Rattle.kn_rows.specs.Numbering.{IsNumber};
 
-use crate::types::Part;
 use kn_assert::Assertion;
 use kn_base::List;
 use kn_proof::Id;
+use kn_rows::Part;
 
 /// The assertions of a base, in the order of its rows.
 pub trait Assertions {

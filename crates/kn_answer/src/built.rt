@@ -1,17 +1,16 @@
 //! The system of a query, with the names of its principals and the ids of its rows.
 ghost use Rattle.std.specs.Prelude.{◌≡◌, ◌+◌, ◌^◌, ◌<◌, ◌≤◌, All, Some, length, map, slice_get, IfOk};
 ghost use Rattle.kn_meaning.specs.Equations.{equations_over};
-ghost use Rattle.kn_answer.specs.Numbering.{IsNumber};
+ghost use Rattle.kn_rows.specs.Numbering.{IsNumber};
+ghost use Rattle.kn_rows.specs.Sizes.{HaveTexts};
 ghost use Rattle.kn_answer.specs.Built.{IsBuilt};
 ghost use Rattle.kn_answer.specs.Located.{IsFound, IsLocated, AreLocated};
-ghost use Rattle.kn_answer.specs.Sizes.{HaveTexts};
 
-use crate::numbered::{Numbered, numbered_query};
-use crate::types::{Part, Tally};
 use kn_base::{List, NoMemory};
 use kn_env::Query;
 use kn_names::Names;
 use kn_proof::{Id, NamedRow, Proof, ReadReply, Row};
+use kn_rows::{Numbered, Part, Tally, numbered_query};
 use kn_system::System;
 use std::alloc::Global;
 use std::marker::Model;

@@ -3,10 +3,9 @@ ghost use Rattle.std.specs.Prelude.{◌≡◌, ◌<◌, length, slice_index, IfO
 ghost use Rattle.kn_answer.specs.Based.{condition_values};
 
 use crate::assertions::Assertions;
-use crate::numbered::ceiling_of;
-use crate::types::Tally;
 use kn_base::{List, NoMemory, Steps};
 use kn_env::Query;
+use kn_rows::{Tally, ceiling_of};
 use kn_settle::Ceilings;
 use std::alloc::Global;
 use std::marker::Model;

@@ -1,6 +1,6 @@
 //! The ids of the assertions of a base, which is all that the rows of a proof need of them.
 ghost use Rattle.std.specs.Prelude.{◌<◌, length, map};
-ghost use Rattle.kn_answer.specs.Numbering.{IsNumber};
+ghost use Rattle.kn_rows.specs.Numbering.{IsNumber};
 
 use crate::assertions::Assertions;
 use kn_env::Query;

@@ -1,21 +1,13 @@
 //! Laws of the systems of queries, each of them the contract of a function that does nothing.
 
-ghost use Rattle.std.specs.Prelude.{◌≡◌};
 ghost use Rattle.kn_answer.specs.Based.{BasesHaveNodes, BasesStateQueries};
 ghost use Rattle.kn_answer.specs.Laws.{LocatedProofs};
 ghost use Rattle.kn_answer.specs.Removed.{RemovedAreWorthless};
-
-use crate::types::QUERY_BYTES;
 
 /// Where the ids of the assertions differ, located rows prove a level in the system of a query exactly where the rows
 /// by names prove it of the query.
 pub fn located_proofs()
     ensures { LocatedProofs }
-{}
-
-/// The bytes of the texts behind a query, together.
-pub fn query_limit()
-    ensures { QUERY_BYTES ≡ 16777000 }
 {}
 
 /// An assertion whose conditions are worth nothing may as well not be there.

@@ -5,19 +5,19 @@ ghost use Rattle.std.specs.Prelude.{IfOk, OnOk};
 ghost use Rattle.kn_meaning.specs.Equations.{IsPolicyLevel, Part as AssertionById, equations_over};
 ghost use Rattle.kn_meaning.specs.Proofs.{IsProof};
 ghost use Rattle.kn_system.specs.Equations.{node_total};
-ghost use Rattle.kn_answer.specs.Based.{IsBaseOf};
+ghost use Rattle.kn_rows.specs.BaseRows.{IsBaseOf};
+ghost use Rattle.kn_rows.specs.Numbering.{HaveNumbers, with_names};
+ghost use Rattle.kn_rows.specs.Sizes.{HaveTexts, IsReadablePart, total_size};
 ghost use Rattle.kn_answer.specs.Narrowed.{narrowed, narrowed_part};
-ghost use Rattle.kn_answer.specs.Numbering.{HaveNumbers, with_names};
-ghost use Rattle.kn_answer.specs.Sizes.{HaveTexts, IsReadablePart, total_size};
 
 use crate::base::Base;
 use crate::conditions::Evaluated;
 use crate::ids::NarrowedIds;
-use crate::numbered::Numbered;
-use crate::types::{Answer, Part};
+use crate::types::Answer;
 use kn_base::limits::MOST_COMPLIANCE_VALUES;
 use kn_base::{List, NoMemory};
 use kn_env::Query;
+use kn_rows::{Numbered, Part};
 use kn_settle::Scratch;
 use std::alloc::Global;
 

@@ -2,10 +2,10 @@
 ghost use Rattle.std.specs.Prelude.{◌≡◌, length};
 
 use crate::assertions::Assertions;
-use crate::types::Part;
 use kn_assert::Assertion;
 use kn_base::List;
 use kn_proof::Id;
+use kn_rows::Part;
 
 /// The assertions of a base, and behind them others, which are lent to one answer alone.
 #[derive(Drop)]

@@ -3,8 +3,9 @@ use Rattle.std.proofs.Common.{◌≡◌, ℕ, ◌≤◌, ◌^◌, List, length, 
 use Rattle.kn_env.specs.Environment.{Asked}
 use Rattle.kn_proof.specs.declared.named.NamedRow.{NamedRow}
 use Rattle.kn_meaning.specs.Equations.{Part, equations_over, IsPolicyLevel}
-use Rattle.kn_answer.specs.Based.{BaseView, IsBaseOf}
-use Rattle.kn_answer.specs.Numbering.{with_names}
+use Rattle.kn_rows.specs.BaseRows.{IsBaseOf}
+use Rattle.kn_rows.specs.Numbering.{with_names}
+use Rattle.kn_answer.specs.Based.{BaseView}
 use Rattle.kn_answer.specs.Removed.{live_parts}
 use Rattle.kn_critical.specs.Searching.{IsLevelWithoutRun, IsWhole, flags_with, flags_without}
 use Rattle.kn_critical.proofs.Flags.{all-back, length-without}

@@ -8,7 +8,7 @@ use Rattle.kn_proof.specs.declared.named.NamedRow.{NamedRow}
 use Rattle.kn_meaning.specs.Critical.{IsCritical, is_row_by}
 use Rattle.kn_meaning.specs.Equations.{Part, equations_over, IsPolicyLevel}
 use Rattle.kn_meaning.specs.Proofs.{IsProof}
-use Rattle.kn_answer.specs.Numbering.{AreDistinct}
+use Rattle.kn_rows.specs.Numbering.{AreDistinct}
 use Rattle.kn_answer.specs.Removed.{live_parts}
 use Rattle.kn_laws.specs.Laws.{EveryQueryHasOneLevel, UnnamedIsNotCritical}
 use Rattle.kn_critical.specs.Searching.{AreUncritical, DecidesCritical, HasRow, IsLevelWithoutRun, IsRowCritical}

@@ -4,7 +4,7 @@ use Rattle.std.proofs.Common.{replicate, slice_set, Some, refl, sym, ap, ◌∙�
 use Rattle.kn_proof.specs.declared.named.Id.{Id}
 use Rattle.kn_meaning.specs.Critical.{is_same_id, without_part}
 use Rattle.kn_meaning.specs.Equations.{Part}
-use Rattle.kn_answer.specs.Numbering.{AreDistinct, IsAbsent}
+use Rattle.kn_rows.specs.Numbering.{AreDistinct, IsAbsent}
 use Rattle.kn_answer.specs.Removed.{live_parts}
 use Rattle.kn_critical.specs.Searching.{HasRow}
 use Rattle.kn_critical.proofs.Ids.{is_same_id-other, is_same_id-same}

@@ -6,8 +6,9 @@ use Rattle.kn_proof.specs.declared.named.Id.{Id}
 use Rattle.kn_proof.specs.declared.named.NamedRow.{NamedRow}
 use Rattle.kn_meaning.specs.Critical.{IsCritical, is_row_by}
 use Rattle.kn_meaning.specs.Equations.{Part, equations_over, IsPolicyLevel}
-use Rattle.kn_answer.specs.Based.{BaseView, IsBaseOf}
-use Rattle.kn_answer.specs.Numbering.{IsNumber, with_names}
+use Rattle.kn_rows.specs.BaseRows.{IsBaseOf}
+use Rattle.kn_rows.specs.Numbering.{IsNumber, with_names}
+use Rattle.kn_answer.specs.Based.{BaseView}
 use Rattle.kn_answer.specs.Removed.{live_parts}
 
 -- the base is of these assertions, each of them is there, and there is room for the names of those who request

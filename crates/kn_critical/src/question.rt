@@ -2,9 +2,10 @@
 ghost use Rattle.std.specs.Prelude.{◌≡◌};
 ghost use Rattle.kn_answer.specs.Based.{condition_values};
 
-use kn_answer::{ConditionValues, Part};
+use kn_answer::ConditionValues;
 use kn_base::List;
 use kn_env::Query;
+use kn_rows::Part;
 
 /// A query over assertions, and what gives the values of their conditions.
 #[derive(Drop)]

@@ -3,15 +3,16 @@ ghost use Rattle.std.specs.Prelude.{◌≡◌, ◌+◌, ◌<◌, ◌≤◌, true
 ghost use Rattle.kn_meaning.specs.Critical.{is_row_by};
 ghost use Rattle.kn_meaning.specs.Equations.{IsPolicyLevel, equations_over};
 ghost use Rattle.kn_meaning.specs.Proofs.{IsProof};
-ghost use Rattle.kn_answer.specs.Numbering.{AreDistinct};
+ghost use Rattle.kn_rows.specs.Numbering.{AreDistinct};
 ghost use Rattle.kn_critical.specs.Searching.{AreUncritical, IsLevelWithoutRun, IsRowCritical, IsRowNamed, IsWhole};
 ghost use Rattle.kn_critical.specs.Searching.{flags_with, flags_without};
 
 use crate::question::Question;
-use kn_answer::{Answer, Assertions, Base, ConditionValues, Part};
+use kn_answer::{Answer, Assertions, Base, ConditionValues};
 use kn_base::{List, NoMemory};
 use kn_laws::laws::{every_query_has_a_level, unnamed_is_not_critical};
 use kn_proof::{Id, NamedRow};
+use kn_rows::Part;
 use std::alloc::Global;
 
 // How many rows from this one on, which a proof names, are known not to be critical: none where its own assertion is.

@@ -3,9 +3,9 @@ ghost use Rattle.std.specs.Prelude.{◌≡◌, ◌⊎◌, ◌+◌, ◌<◌, None
 ghost use Rattle.kn_meaning.specs.Critical.{AreCritical, equation_nodes};
 ghost use Rattle.kn_meaning.specs.Equations.{IsPolicyLevel, equations_over};
 ghost use Rattle.kn_meaning.specs.Proofs.{IsProof};
+ghost use Rattle.kn_rows.specs.Numbering.{AreDistinct};
+ghost use Rattle.kn_rows.specs.Sizes.{HaveTexts};
 ghost use Rattle.kn_answer.specs.Based.{condition_values};
-ghost use Rattle.kn_answer.specs.Numbering.{AreDistinct};
-ghost use Rattle.kn_answer.specs.Sizes.{HaveTexts};
 ghost use Rattle.kn_critical.specs.Faults.{critical_fault};
 ghost use Rattle.kn_critical.specs.Searching.{AreUncritical, DecidesCritical, IsWhole};
 
@@ -14,12 +14,13 @@ use crate::question::Question;
 use crate::remembered::{Picked, Remembered};
 use crate::runs::{clear_rows, is_named};
 use kn_answer::laws::bases_have_nodes;
-use kn_answer::{Answer, Assertions, Base, ConditionValues, Evaluated, Part, count_nodes};
+use kn_answer::{Answer, Assertions, Base, ConditionValues, Evaluated};
 use kn_base::limits::CRITICAL_NODES;
 use kn_base::{List, NoMemory};
 use kn_env::Query;
 use kn_laws::laws::unnamed_is_not_critical;
 use kn_proof::Id;
+use kn_rows::{Part, count_nodes};
 use std::alloc::Global;
 use std::marker::Brand;
 

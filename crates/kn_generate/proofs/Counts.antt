@@ -1,12 +1,13 @@
 -- What is counted of the system of a query is what is counted of the query.
-use Rattle.std.proofs.Common.{◌≡◌, ◌∙◌, ◌+◌, ◌⊎◌, ℕ, suc, Bool, false, cond, not, ◌&&◌, List, [], ◌∷◌, length, map}
-use Rattle.std.proofs.Common.{slice_index, Some, inl, inr, refl, sym, ap, arith}
+use Rattle.std.proofs.Common.{◌≡◌, ◌∙◌, ◌+◌, ◌⊎◌, ℕ, suc, Bool, cond, not, ◌&&◌, List, [], ◌∷◌, length, map}
+use Rattle.std.proofs.Common.{false, slice_index, Some, inl, inr, refl, sym, ap, arith}
 use Rattle.std.specs.Prelude.{nat_lt, sum_by, count_by}
 use Rattle.std.specs.List.{list_any, IsDistinct, AllByRecursion}
 use Rattle.std.specs.Str.{bytes_eq}
 use Rattle.std.proofs.lemmas.Bool.{false_from_ne_true}
 use Rattle.std.proofs.lemmas.List.Sums.{sum_by-cons}
 use Rattle.kn_principal.specs.Principals.{policy}
+use Rattle.kn_meaning.specs.Critical.{licensees_nodes}
 use Rattle.kn_meaning.specs.Formulas.{Levels}
 use Rattle.kn_meaning.specs.Equations.{Equations, Statement, is_requester}
 use Rattle.kn_meaning.specs.Occurring.{occurring, licensees_names}
@@ -14,16 +15,14 @@ use Rattle.kn_system.specs.Rows.{SystemRow}
 use Rattle.kn_system.specs.Equations.{SystemEquations, node_total, leaf_total}
 use Rattle.kn_system.specs.Least.{least_levels}
 use Rattle.kn_system.specs.Lawful.{IsLeast}
-use Rattle.kn_answer.specs.Numbering.{IsNumber, IsAbsent, AreDistinct, AreNamesOf, HaveLevels, licensees_pieces}
-use Rattle.kn_answer.specs.Numbering.{AreRowsOf}
+use Rattle.kn_rows.specs.Numbering.{IsNumber, IsAbsent, AreDistinct, AreNamesOf, AreRowsOf, HaveLevels}
+use Rattle.kn_rows.specs.Numbering.{licensees_pieces}
+use Rattle.kn_rows.proofs.Names.{absent-among, bytes_eq-true, number-among, number_or_none}
+use Rattle.kn_rows.proofs.NewNames.{AreNumbered-length}
+use Rattle.kn_rows.proofs.Pieces.{licensees-nodes, licensees-uses, same-nodes, same-uses}
 use Rattle.kn_answer.specs.Built.{Interned, IsBuilt}
-use Rattle.kn_answer.proofs.NamedLevels.{bytes_eq-true, number_or_none, level_at, level_at-have}
-use Rattle.kn_answer.proofs.NamedLevels.{IsLeast-by_name}
-use Rattle.kn_answer.proofs.NamesAdded.{number-among, absent-among}
-use Rattle.kn_answer.proofs.NewNames.{AreNumbered-length}
-use Rattle.kn_answer.proofs.Pieces.{licensees-nodes, licensees-uses, same-nodes, same-uses}
+use Rattle.kn_answer.proofs.NamedLevels.{level_at, level_at-have, IsLeast-by_name}
 use Rattle.kn_generate.specs.declared.query.Measured.{Measured}
-use Rattle.kn_meaning.specs.Critical.{licensees_nodes}
 use Rattle.kn_generate.specs.Measured.{granted_count, HasCounts, IsMeasured}
 
 -- who has no number differs from all names
@@ -45,7 +44,6 @@ each_once (name ∷ names) distinct = (
   each_once names (λ p q item a b. let same : suc p ≡ suc q = distinct (suc p) (suc q) item a b in omega (arith, same)),
 )
 
--- who is among the principals is among their names, and nobody else
 among-same : (principals names : List (List ℕ)) → AreNamesOf principals names → (name : List ℕ)
     → list_any (bytes_eq name) names ≡ list_any (bytes_eq name) principals
 among-same principals names are name = by (number_or_none names name)
@@ -70,7 +68,7 @@ granted-named asks at (name ∷ names) (level ∷ levels) size have =
     ∙ ap (λ (n : ℕ). cond (not (asks name) && nat_lt 0 (at name)) 1 0 + n) rest
     ∙ sym (sum_by-cons (λ other. cond (not (asks other) && nat_lt 0 (at other)) 1 0) name names)
 
--- rows have the nodes and the names of the formulas they stand for
+-- the rows of statements have the nodes of their formulas, and as many uses as these name principals
 rows-nodes : (top : ℕ) (names : List (List ℕ)) (statements : List Statement) (rows : List SystemRow)
     → AreRowsOf top names statements rows → node_total rows ≡ sum_by (λ s. licensees_nodes s.licensees) statements
 rows-nodes top names [] [] are = refl

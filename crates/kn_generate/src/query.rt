@@ -11,10 +11,11 @@ ghost use Rattle.kn_generate.specs.Generated.{query_over, last_principal, genera
 ghost use Rattle.kn_generate.specs.Measured.{granted_count, granted_count_at, IsMeasured};
 
 use crate::text::principal;
-use kn_answer::{Built, Tally};
+use kn_answer::Built;
 use kn_base::{List, NoMemory, Octets, Steps};
 use kn_env::{Attributes, EnvFault, Values, ValuesFault};
 use kn_query::build_query;
+use kn_rows::Tally;
 use kn_session::{Private, View};
 use kn_settle::settle;
 use kn_store::Snapshot;

@@ -2,9 +2,8 @@
 use Rattle.std.proofs.Common.{◌≡◌, ℕ, zero, suc, ◌<◌, ◌≤◌, ◌==◌, ◌||◌, Bool, true, false, not, cond, List, [], ◌∷◌}
 use Rattle.std.proofs.Common.{◌++◌, drop, get_or, length, map, replicate, take, Some, refl, sym, ap, subst, ◌∙◌, arith}
 use Rattle.std.proofs.Common.{append_assoc, take-append-drop}
-use Rattle.std.specs.Prelude.{slice_get, slice_set}
+use Rattle.std.specs.Prelude.{slice_get, slice_set, option_map}
 use Rattle.std.proofs.lemmas.Bool.{or_from, or_parts, ne_eqb, eq-eqb}
-use Rattle.std.specs.Prelude.{option_map}
 use Rattle.std.proofs.lemmas.Option.{same_Some, slice_get-map, slice_get_read}
 use Rattle.std.proofs.lemmas.List.{length-set}
 use Rattle.std.proofs.lemmas.List.Sums.{sum_by-cons}
@@ -21,7 +20,8 @@ use Rattle.kn_history.proofs.Ids.{ascend-weaker}
 use Rattle.kn_store.specs.Places.{has_id}
 use Rattle.kn_daemon.specs.Daemon.{part_by, parts_of}
 use Rattle.kn_system.specs.Equations.{SystemEquations}
-use Rattle.kn_answer.specs.Based.{BaseView, IsBaseOf}
+use Rattle.kn_rows.specs.BaseRows.{IsBaseOf}
+use Rattle.kn_answer.specs.Based.{BaseView}
 use Rattle.kn_answer.specs.Removed.{live_parts}
 use Rattle.kn_query.specs.Following.{AreAbove, AreUpTo, FollowsRemovals, live_credentials, without_removed}
 use Rattle.kn_query.specs.SharedParts.{AreRead}

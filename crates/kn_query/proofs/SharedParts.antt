@@ -18,10 +18,10 @@ use Rattle.kn_session.specs.Sessions.{Session, pin_at}
 use Rattle.kn_session.specs.Views.{ArePrivates}
 use Rattle.kn_session.specs.Laws.{TextsAreShort}
 use Rattle.kn_daemon.specs.Daemon.{part_by, parts_of, asked_of, equations_of, session_parts}
-use Rattle.kn_answer.specs.Numbering.{IsNumber}
-use Rattle.kn_answer.specs.Sizes.{HaveTexts, IsReadablePart, total_size}
+use Rattle.kn_rows.specs.Numbering.{IsNumber}
+use Rattle.kn_rows.specs.Sizes.{HaveTexts, IsReadablePart, total_size}
 use Rattle.kn_assert.proofs.Answered.{ReadingTold}
-use Rattle.kn_answer.proofs.Texts.{SoundTold, texts_readable, texts_size}
+use Rattle.kn_rows.proofs.Texts.{SoundTold, texts_readable, texts_size}
 use Rattle.kn_query.specs.SharedParts.{AreRead, shared_parts}
 use Rattle.kn_query.specs.Steady.{KeepsLevel}
 use Rattle.kn_query.proofs.Texts.{found, have_texts, read_parts, texts_in}

@@ -15,9 +15,9 @@ use Rattle.kn_session.specs.declared.view.Private.{Private}
 use Rattle.kn_session.specs.Views.{numbered_text, AreReadPrivates, ArePrivates}
 use Rattle.kn_session.specs.Laws.{all_texts, all_ids, AreDifferent, TextsAreShort}
 use Rattle.kn_daemon.specs.Daemon.{part_by, parts_of}
-use Rattle.kn_answer.specs.declared.types.TheConstants.{QUERY_BYTES}
-use Rattle.kn_answer.specs.Numbering.{IsNumber, AreDistinct}
-use Rattle.kn_answer.specs.Sizes.{HaveTexts}
+use Rattle.kn_rows.specs.declared.parts.TheConstants.{QUERY_BYTES}
+use Rattle.kn_rows.specs.Numbering.{IsNumber, AreDistinct}
+use Rattle.kn_rows.specs.Sizes.{HaveTexts}
 use Rattle.kn_query.specs.SharedParts.{AreRead}
 
 abbrev pub texts_in : List NumberedText → List (List ℕ)

@@ -6,7 +6,7 @@ use Rattle.kn_history.specs.declared.update.Update.{Update}
 use Rattle.kn_history.specs.History.{NumberedText, additions, all_changes, credentials_of}
 use Rattle.kn_daemon.specs.Daemon.{parts_of}
 use Rattle.kn_system.specs.Equations.{node_total}
-use Rattle.kn_answer.specs.Based.{IsBaseOf}
+use Rattle.kn_rows.specs.BaseRows.{IsBaseOf}
 use Rattle.kn_query.specs.Following.{AreUpTo, live_credentials}
 use Rattle.kn_query.specs.Steady.{IsSteady}
 use Rattle.kn_query.specs.declared.shared_base.SharedBase.{SharedBase}

@@ -4,13 +4,13 @@ ghost use Rattle.kn_proof.specs.declared.named.Id.TheVariants.{Shared};
 ghost use Rattle.kn_session.specs.Views.{session_of_view, AreReadPrivates, ArePrivates};
 ghost use Rattle.kn_history.specs.History.{credentials_of};
 ghost use Rattle.kn_daemon.specs.Daemon.{session_parts, parts_of};
-ghost use Rattle.kn_answer.specs.Numbering.{AreDistinct};
-ghost use Rattle.kn_answer.specs.Sizes.{HaveTexts};
+ghost use Rattle.kn_rows.specs.Numbering.{AreDistinct};
+ghost use Rattle.kn_rows.specs.Sizes.{HaveTexts};
 ghost use Rattle.kn_query.specs.SharedParts.{AreRead, private_parts};
 
-use kn_answer::Part;
 use kn_base::{List, NoMemory};
 use kn_proof::Id;
+use kn_rows::Part;
 use kn_session::laws::assertions_of_a_session;
 use kn_session::{Private, View};
 use kn_store::Version;

@@ -8,12 +8,11 @@ use Rattle.kn_proof.specs.declared.named.Id.{Id}
 use Rattle.kn_proof.specs.declared.row.Row.{Row}
 use Rattle.kn_proof.specs.declared.reply.ReadReply.{ReadReply}
 use Rattle.kn_proof.specs.Reading.{IsHeadOf}
-use Rattle.kn_history.specs.declared.update.Update.{Update}
 use Rattle.kn_system.specs.Least.{least_levels}
 use Rattle.kn_system.specs.Lawful.{LeastLevelsAreLeast}
 use Rattle.kn_system.specs.Proofs.{IsProof}
 use Rattle.kn_meaning.specs.Equations.{Equations, Statement, IsPolicyLevel}
-use Rattle.kn_answer.specs.Numbering.{AreDistinct}
+use Rattle.kn_rows.specs.Numbering.{AreDistinct}
 use Rattle.kn_answer.specs.Built.{Interned, IsBuilt}
 use Rattle.kn_answer.specs.Located.{AreLocated}
 use Rattle.kn_answer.specs.Laws.{LocatedProofs}

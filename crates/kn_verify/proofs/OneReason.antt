@@ -20,8 +20,8 @@ use Rattle.kn_meaning.specs.Formulas.{Levels}
 use Rattle.kn_meaning.specs.Equations.{Equations, Statement, is_requester, worth}
 use Rattle.kn_meaning.specs.Occurring.{occurring, licensees_names, statement_names}
 use Rattle.kn_meaning.specs.Proofs.{levels_by, IsRow, AreRows, IsClosed, IsProof}
-use Rattle.kn_answer.specs.Numbering.{AreDistinct}
-use Rattle.kn_answer.proofs.NamedLevels.{bytes_eq-same}
+use Rattle.kn_rows.specs.Numbering.{AreDistinct}
+use Rattle.kn_rows.proofs.Names.{bytes_eq-same}
 use Rattle.kn_verify.specs.Rejections.{IsNamedInRange, IsNamedRowReject, IsNamedRowFault, IsNamedUnclosed}
 use Rattle.kn_verify.specs.Rejections.{IsNamedOtherClaim, IsRejected}
 

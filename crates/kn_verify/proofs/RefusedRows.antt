@@ -21,13 +21,12 @@ use Rattle.kn_meaning.specs.Formulas.{Levels}
 use Rattle.kn_meaning.specs.Equations.{Equations, Statement, is_requester}
 use Rattle.kn_meaning.specs.Equations as named
 use Rattle.kn_meaning.specs.Proofs.{row_level, levels_by}
-use Rattle.kn_answer.specs.Numbering.{IsNumber, HaveLevels}
+use Rattle.kn_rows.specs.Numbering.{IsNumber, HaveLevels}
+use Rattle.kn_rows.proofs.NewNames.{AreNumbered-length}
 use Rattle.kn_answer.specs.Built.{Interned, IsBuilt}
 use Rattle.kn_answer.specs.Located.{IsLocated, AreLocated}
-use Rattle.kn_answer.proofs.NewNames.{AreNumbered-length}
 use Rattle.kn_answer.proofs.StatementRows.{IsAt, IsBuilt-stated, at-statement, at-row, worth-at, flag-at, rows-few}
-use Rattle.kn_answer.proofs.StatementRows.{length-rows}
-use Rattle.kn_answer.proofs.StatementRows.{closed-named}
+use Rattle.kn_answer.proofs.StatementRows.{length-rows, closed-named}
 use Rattle.kn_answer.proofs.ProofLevels.{row_level-none, row_level-zero, HaveFollowed, HaveFollowed-none}
 use Rattle.kn_answer.proofs.Located.{found-within, found-there, IsFollowed, steps-named}
 use Rattle.kn_verify.specs.Rejections.{IsNamedInRange, NamesOther, NamesFresh, NamesRaised, IsNamedRowReject}

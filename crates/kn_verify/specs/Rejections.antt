@@ -11,7 +11,7 @@ use Rattle.kn_meaning.specs.Formulas.{Levels}
 use Rattle.kn_meaning.specs.Equations.{Equations, Statement, is_requester, worth}
 use Rattle.kn_meaning.specs.Occurring.{occurring}
 use Rattle.kn_meaning.specs.Proofs.{levels_by, AreRows, IsClosed, IsProof}
-use Rattle.kn_answer.specs.Numbering.{AreDistinct}
+use Rattle.kn_rows.specs.Numbering.{AreDistinct}
 
 -- the row's principal and assertion occur in the query, and its level is one of the query's
 pub record IsNamedInRange (e : Equations) (row : NamedRow) : Type 0 where

@@ -10,12 +10,13 @@ ghost use Rattle.kn_daemon.specs.Daemon.{equations_of};
 ghost use Rattle.kn_verify.specs.Verdicts.{IsReplyTo, IsProved, IsRefusal, IsStepsRefusal};
 
 use kn_answer::laws::located_proofs;
-use kn_answer::{Built, Tally, locate};
+use kn_answer::{Built, locate};
 use kn_base::{NoMemory, Steps};
 use kn_check::{Reject, check};
 use kn_env::Values;
 use kn_proof::{Proof, ReadReply, ReplyHead};
 use kn_query::build_query;
+use kn_rows::Tally;
 use kn_session::View;
 use kn_store::Version;
 use kn_system::laws::least_levels_are_least;

@@ -2,9 +2,9 @@ use Rattle.std.proofs.Common.{◌≡◌, ◌∙◌, ap, sym, length}
 use Rattle.std.proofs.lemmas.List.{length-map}
 use Rattle.std.proofs.lemmas.Simd.{map-map}
 use Rattle.kn_meaning.specs.Equations.{equations_over, statement_of}
-use Rattle.kn_answer.proofs.NewNames.{AreNumbered-length}
+use Rattle.kn_rows.proofs.NewNames.{AreNumbered-length}
+use Rattle.kn_rows.proofs.Texts.{texts_readable, texts_small}
 use Rattle.kn_answer.proofs.StatementRows.{length-rows}
-use Rattle.kn_answer.proofs.Texts.{texts_readable, texts_small}
 use Rattle.kn_answer.proofs.built.build.Goals as goal
 
 pub numbered_query-requires-clause-readable : goal.numbered_query-requires-clause-readable

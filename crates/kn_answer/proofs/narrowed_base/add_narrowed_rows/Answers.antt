@@ -7,15 +7,15 @@ use Rattle.kn_trees.specs.declared.assertion.Assertion.{Assertion}
 use Rattle.kn_trees.specs.Formulas.{field_nodes}
 use Rattle.kn_meaning.specs.Equations.{Part}
 use Rattle.kn_system.specs.Equations.{SystemEquations}
-use Rattle.kn_answer.specs.declared.numbered.Numbered.{Numbered}
-use Rattle.kn_answer.specs.Based.{IsBaseOf}
-use Rattle.kn_answer.specs.Extending.{AddsNarrowedRow}
+use Rattle.kn_rows.specs.declared.numbered.Numbered.{Numbered}
+use Rattle.kn_rows.specs.BaseRows.{IsBaseOf}
+use Rattle.kn_rows.specs.Extending.{AddsNarrowedRow}
 use Rattle.kn_answer.specs.Narrowed.{narrowed_part}
-use Rattle.kn_answer.specs.Numbering.{IsNumber}
-use Rattle.kn_answer.specs.Sizes.{size_of, total_size}
+use Rattle.kn_rows.specs.Numbering.{IsNumber}
+use Rattle.kn_rows.specs.Sizes.{size_of, total_size}
 use Rattle.kn_answer.proofs.NarrowedBases.{authorizer-here, narrowed-base, narrowed-nodes}
-use Rattle.kn_answer.proofs.NewNames.{among_one, is_among}
-use Rattle.kn_answer.proofs.SizesAdded.{total_size-drop, total_size-longer, total_size-split}
+use Rattle.kn_rows.proofs.NewNames.{among_one, is_among}
+use Rattle.kn_rows.proofs.SizesAdded.{total_size-drop, total_size-longer, total_size-split}
 use Rattle.kn_answer.proofs.narrowed_base.add_narrowed_rows.Goals as goal
 
 pub add_narrowed_row-requires-clause-authorizer : goal.add_narrowed_row-requires-clause-authorizer

@@ -1,9 +1,9 @@
 use Rattle.std.proofs.Common.{◌≡◌, ◌+◌, ◌++◌, ◌≤◌, List, length, map, replicate, take, true}
 use Rattle.kn_meaning.specs.Equations.{Part}
 use Rattle.kn_system.specs.Equations.{node_total}
-use Rattle.kn_answer.specs.Based.{IsBaseOf}
+use Rattle.kn_rows.specs.BaseRows.{IsBaseOf}
+use Rattle.kn_rows.specs.Sizes.{total_size}
 use Rattle.kn_answer.specs.Narrowed.{narrowed_part}
-use Rattle.kn_answer.specs.Sizes.{total_size}
 use Rattle.kn_answer.proofs.narrowed_base.add_narrowed_rows.Given as goal
 
 abbrev pub invariant-loop-part : goal.invariant-loop-part

@@ -1,11 +1,11 @@
 use Rattle.std.proofs.Common.{◌≡◌, ℕ, ◌<◌, List, [], ◌∷◌, length, map, get_or, sym, ap, ◌∙◌, arith}
 use Rattle.std.proofs.lemmas.List.{length-map}
 use Rattle.kn_meaning.specs.Equations.{Part}
-use Rattle.kn_answer.specs.Numbering.{with_name}
-use Rattle.kn_answer.specs.Extending.{Extends}
-use Rattle.kn_answer.proofs.NamesAdded.{with_names-more}
+use Rattle.kn_rows.specs.Numbering.{with_name}
+use Rattle.kn_rows.specs.Extending.{Extends}
+use Rattle.kn_rows.proofs.NamesAdded.{with_names-more}
+use Rattle.kn_rows.proofs.RowsOfAssertions.{extended-base}
 use Rattle.kn_answer.proofs.NarrowedBases.{authorizer-here}
-use Rattle.kn_answer.proofs.RowsOfAssertions.{extended-base}
 use Rattle.kn_answer.proofs.narrowed_base.number_authorizers.Goals as goal
 
 pub loop-part-preserved : goal.loop-part-preserved

@@ -1,7 +1,7 @@
 use Rattle.std.proofs.Common.{◌≡◌, ◌+◌, ◌≤◌, List, length, map, take}
 use Rattle.kn_meaning.specs.Equations.{Part}
-use Rattle.kn_answer.specs.Based.{IsBaseOf}
-use Rattle.kn_answer.specs.Numbering.{with_names}
+use Rattle.kn_rows.specs.BaseRows.{IsBaseOf}
+use Rattle.kn_rows.specs.Numbering.{with_names}
 use Rattle.kn_answer.proofs.narrowed_base.number_authorizers.Given as goal
 
 abbrev pub invariant-loop-part : goal.invariant-loop-part

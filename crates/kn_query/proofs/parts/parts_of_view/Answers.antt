@@ -2,8 +2,8 @@ use Rattle.std.proofs.Common.{List, map, sym, subst}
 use Rattle.kn_meaning.specs.Equations.{Part}
 use Rattle.kn_session.specs.Views.{numbered_text}
 use Rattle.kn_history.specs.History.{credentials_of}
-use Rattle.kn_answer.specs.Numbering.{AreDistinct}
-use Rattle.kn_answer.specs.Sizes.{HaveTexts}
+use Rattle.kn_rows.specs.Numbering.{AreDistinct}
+use Rattle.kn_rows.specs.Sizes.{HaveTexts}
 use Rattle.kn_query.proofs.Texts.{both_sorts, have_texts, ids_differ}
 use Rattle.kn_query.proofs.parts.parts_of_view.Goals as goal
 

@@ -1,6 +1,6 @@
 use Rattle.std.proofs.Common.{subst, sym}
 use Rattle.std.proofs.lemmas.Result.{IfOk-weaker}
-use Rattle.kn_answer.specs.Numbering.{AreDistinct}
+use Rattle.kn_rows.specs.Numbering.{AreDistinct}
 use Rattle.kn_query.proofs.query.build_query.Goals as goal
 
 -- the ids are those of the parts, which differ

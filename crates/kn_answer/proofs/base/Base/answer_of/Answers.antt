@@ -7,12 +7,13 @@ use Rattle.kn_system.specs.Equations.{SystemEquations}
 use Rattle.kn_system.specs.Least.{least_levels}
 use Rattle.kn_system.specs.Proofs.{IsProof}
 use Rattle.kn_settle.specs.QuerySystem.{query_system}
-use Rattle.kn_answer.specs.Based.{BaseView, AreNumbersOf, IsBaseOf, capped_values, ceilings_of}
+use Rattle.kn_answer.specs.Based.{BaseView, capped_values, ceilings_of}
+use Rattle.kn_rows.specs.BaseRows.{AreNumbersOf, IsBaseOf}
 use Rattle.kn_answer.specs.Removed.{live_parts}
 use Rattle.kn_answer.proofs.AnswersOfBases.{IsAnswering, answering-below, answering-each, answering-least}
 use Rattle.kn_answer.proofs.AnswersOfBases.{answering-low}
 use Rattle.kn_answer.proofs.AnswersOfBases.{answering-others, answering-proof, answering-rows}
-use Rattle.kn_answer.proofs.BaseSystems.{length-base}
+use Rattle.kn_rows.proofs.BaseRows.{length-base}
 use Rattle.kn_answer.proofs.Capped.{ceilings-capped}
 use Rattle.kn_answer.proofs.base.Base.answer_of.Given.{Over}
 use Rattle.kn_answer.proofs.base.Base.answer_of.Goals.{After-fit}

@@ -5,10 +5,11 @@ use Rattle.kn_principal.specs.Principals.{policy}
 use Rattle.kn_meaning.specs.Equations.{IsPolicyLevel, Part, equations_over}
 use Rattle.kn_meaning.specs.Proofs as proof
 use Rattle.kn_system.specs.Equations.{IsRowOver, IsSystem}
-use Rattle.kn_answer.specs.Based.{BaseView, IsBaseOf}
+use Rattle.kn_rows.specs.BaseRows.{IsBaseOf}
+use Rattle.kn_rows.proofs.BaseRows.{length-base}
+use Rattle.kn_rows.proofs.NamesAdded.{length-with_names}
+use Rattle.kn_answer.specs.Based.{BaseView}
 use Rattle.kn_answer.specs.Removed.{live_parts}
-use Rattle.kn_answer.proofs.BaseSystems.{length-base}
-use Rattle.kn_answer.proofs.NamesAdded.{length-with_names}
 use Rattle.kn_answer.proofs.LongerBases.{first-within, live-more, over-these, take-front, taken-back}
 use Rattle.kn_answer.proofs.base.Base.answer_with.Goals as goal
 

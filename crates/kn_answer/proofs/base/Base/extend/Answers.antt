@@ -3,9 +3,10 @@ use Rattle.kn_trees.specs.declared.assertion.Assertion.{Assertion}
 use Rattle.kn_trees.specs.Formulas.{field_nodes}
 use Rattle.kn_meaning.specs.Equations.{Part}
 use Rattle.kn_system.specs.Equations.{node_total}
-use Rattle.kn_answer.specs.Based.{BaseView, GoesOn, IsBaseOf}
-use Rattle.kn_answer.specs.Extending.{AddsRow}
-use Rattle.kn_answer.proofs.RowsOfAssertions.{added-base, added-nodes}
+use Rattle.kn_rows.specs.BaseRows.{IsBaseOf}
+use Rattle.kn_rows.specs.Extending.{AddsRow}
+use Rattle.kn_rows.proofs.RowsOfAssertions.{added-base, added-nodes}
+use Rattle.kn_answer.specs.Based.{BaseView, GoesOn}
 use Rattle.kn_answer.proofs.LongerBases.{goes-on-row}
 use Rattle.kn_answer.proofs.base.Base.extend.Goals as goal
 

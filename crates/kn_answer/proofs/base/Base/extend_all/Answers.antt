@@ -2,9 +2,9 @@ use Rattle.std.proofs.Common.{◌≡◌, ◌+◌, ◌<◌, ℕ, List, [], ◌∷
 use Rattle.std.proofs.Common.{◌∙◌, subst, arith, append_assoc}
 use Rattle.std.proofs.lemmas.List.{append-nil, replicate_more, take_all, take_more}
 use Rattle.kn_meaning.specs.Equations.{Part}
-use Rattle.kn_answer.specs.Based.{IsBaseOf}
-use Rattle.kn_answer.specs.Sizes.{IsReadablePart, size_of, total_size}
-use Rattle.kn_answer.proofs.SizesAdded.{total_size-drop, total_size-longer, total_size-split}
+use Rattle.kn_rows.specs.BaseRows.{IsBaseOf}
+use Rattle.kn_rows.specs.Sizes.{IsReadablePart, size_of, total_size}
+use Rattle.kn_rows.proofs.SizesAdded.{total_size-drop, total_size-longer, total_size-split}
 use Rattle.kn_answer.proofs.LongerBases.{goes-on-after, goes-on-same}
 use Rattle.kn_answer.proofs.base.Base.extend_all.Goals as goal
 

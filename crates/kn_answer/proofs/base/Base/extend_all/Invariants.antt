@@ -1,8 +1,9 @@
 use Rattle.std.proofs.Common.{◌≡◌, ◌+◌, ◌≤◌, ◌++◌, length, List, replicate, take, true}
 use Rattle.kn_meaning.specs.Equations.{Part}
 use Rattle.kn_system.specs.Equations.{node_total}
-use Rattle.kn_answer.specs.Based.{GoesOn, IsBaseOf}
-use Rattle.kn_answer.specs.Sizes.{total_size}
+use Rattle.kn_rows.specs.BaseRows.{IsBaseOf}
+use Rattle.kn_rows.specs.Sizes.{total_size}
+use Rattle.kn_answer.specs.Based.{GoesOn}
 use Rattle.kn_answer.proofs.base.Base.extend_all.Given as goal
 
 abbrev pub invariant-loop-part : goal.invariant-loop-part

@@ -2,15 +2,15 @@ use Rattle.std.proofs.Common.{◌≡◌, ℕ, ◌+◌, ◌^◌, ◌<◌, ◌≤�
 use Rattle.std.proofs.Common.{refl, sym, ap, ◌∙◌, subst, arith}
 use Rattle.std.proofs.lemmas.List.{replicate_more, take_all, take_more}
 use Rattle.kn_meaning.specs.Equations.{Part}
-use Rattle.kn_answer.specs.Based.{IsBaseOf}
-use Rattle.kn_answer.specs.Numbering.{with_names}
+use Rattle.kn_rows.specs.BaseRows.{IsBaseOf}
+use Rattle.kn_rows.specs.Numbering.{with_names}
 use Rattle.kn_answer.specs.Removed.{live_parts}
-use Rattle.kn_answer.specs.Sizes.{IsReadablePart, size_of, total_size}
+use Rattle.kn_rows.specs.Sizes.{IsReadablePart, size_of, total_size}
 use Rattle.kn_answer.proofs.Capped.{live-all}
-use Rattle.kn_answer.proofs.NamesAdded.{length-with_names}
-use Rattle.kn_answer.proofs.Pieces.{bases-nodes, nodes-front}
-use Rattle.kn_answer.proofs.SizesAdded.{total_size-drop, total_size-longer, total_size-split}
-use Rattle.kn_answer.proofs.Texts.{texts_readable, texts_small}
+use Rattle.kn_rows.proofs.NamesAdded.{length-with_names}
+use Rattle.kn_rows.proofs.Pieces.{nodes-front, rows-nodes}
+use Rattle.kn_rows.proofs.SizesAdded.{total_size-drop, total_size-longer, total_size-split}
+use Rattle.kn_rows.proofs.Texts.{texts_readable, texts_small}
 use Rattle.kn_answer.proofs.base.Base.of.Goals as goal
 
 pub extend-requires-clause-readable : goal.extend-requires-clause-readable
@@ -64,7 +64,7 @@ returns-then-nodes-most_nodes-clause-none c = λ none asked.
     (c.in_ok-longer.ensures.base (take i list) c.loop-part.invariant.base) in
     omega (
       arith,
-      bases-nodes (take (i + 1) list) c.in_ok-longer.longer.names c.in_ok-longer.longer.system of asked,
+      rows-nodes asked c.in_ok-longer.longer.names (take (i + 1) list) c.in_ok-longer.longer.system.rows of.rows,
       nodes-front asked list (i + 1),
       c.nodes.ensures,
       c.if-nodes-most_nodes.true,

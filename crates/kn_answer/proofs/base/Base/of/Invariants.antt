@@ -1,7 +1,7 @@
 use Rattle.std.proofs.Common.{◌≡◌, ◌+◌, ◌≤◌, length, replicate, take, true}
 use Rattle.kn_system.specs.Equations.{node_total}
-use Rattle.kn_answer.specs.Based.{IsBaseOf}
-use Rattle.kn_answer.specs.Sizes.{total_size}
+use Rattle.kn_rows.specs.BaseRows.{IsBaseOf}
+use Rattle.kn_rows.specs.Sizes.{total_size}
 use Rattle.kn_answer.proofs.base.Base.of.Given as goal
 
 abbrev pub invariant-loop-part : goal.invariant-loop-part

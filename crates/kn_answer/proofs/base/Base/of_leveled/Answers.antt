@@ -2,13 +2,13 @@ use Rattle.std.proofs.Common.{◌≡◌, ℕ, ◌+◌, ◌^◌, ◌<◌, List, [
 use Rattle.kn_env.specs.Environment.{Asked}
 use Rattle.kn_meaning.specs.Equations.{Part}
 use Rattle.kn_system.specs.Equations.{SystemEquations, node_total}
-use Rattle.kn_answer.specs.Based.{IsBaseOf}
-use Rattle.kn_answer.specs.Numbering.{with_names}
-use Rattle.kn_answer.specs.Sizes.{total_size}
-use Rattle.kn_answer.proofs.NamesAdded.{length-with_names}
+use Rattle.kn_rows.specs.BaseRows.{IsBaseOf}
+use Rattle.kn_rows.specs.Numbering.{with_names}
+use Rattle.kn_rows.specs.Sizes.{total_size}
+use Rattle.kn_rows.proofs.NamesAdded.{length-with_names}
+use Rattle.kn_rows.proofs.SizesAdded.{length-total_size}
+use Rattle.kn_rows.proofs.Texts.{texts_readable, texts_small}
 use Rattle.kn_answer.proofs.NarrowedBases.{authorizers-numbered, leveled_names, narrowed-leveled, policy-base}
-use Rattle.kn_answer.proofs.SizesAdded.{length-total_size}
-use Rattle.kn_answer.proofs.Texts.{texts_readable, texts_small}
 use Rattle.kn_answer.proofs.base.Base.of_leveled.Goals.{In_ok-numbers}
 use Rattle.kn_answer.proofs.base.Base.of_leveled.Goals as goal
 

@@ -1,5 +1,5 @@
 use Rattle.std.proofs.Common.{ℕ, ◌<◌}
-use Rattle.kn_answer.specs.Numbering.{IsNumber}
+use Rattle.kn_rows.specs.Numbering.{IsNumber}
 use Rattle.kn_answer.proofs.built.Built.find_id.Given as goal
 
 abbrev pub invariant-loop-row : goal.invariant-loop-row

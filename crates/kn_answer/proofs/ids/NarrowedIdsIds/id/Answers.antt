@@ -2,8 +2,8 @@ use Rattle.std.proofs.Common.{◌≡◌, List, length, sym, subst, arith}
 use Rattle.std.proofs.lemmas.List.{length-map}
 use Rattle.kn_proof.specs.declared.named.Id.{Id}
 use Rattle.kn_meaning.specs.Equations.{Part}
+use Rattle.kn_rows.specs.Numbering.{IsNumber}
 use Rattle.kn_answer.specs.Narrowed.{leveled, narrowed}
-use Rattle.kn_answer.specs.Numbering.{IsNumber}
 use Rattle.kn_answer.proofs.NarrowedBases.{ids-narrowed}
 use Rattle.kn_answer.proofs.ids.NarrowedIdsIds.id.Goals as goal
 

@@ -2,7 +2,7 @@ use Rattle.std.proofs.Common.{◌≡◌, ◌+◌, ◌-◌, List, length, map, sy
 use Rattle.std.proofs.lemmas.List.{length-map, map-append}
 use Rattle.kn_proof.specs.declared.named.Id.{Id}
 use Rattle.kn_meaning.specs.Equations.{Part}
-use Rattle.kn_answer.specs.Numbering.{IsNumber}
+use Rattle.kn_rows.specs.Numbering.{IsNumber}
 use Rattle.kn_answer.proofs.LongerBases.{number-behind, number-front}
 use Rattle.kn_answer.proofs.with_others.WithOthersAssertions.id.Goals as goal
 

@@ -5,8 +5,8 @@ use Rattle.kn_meaning.specs.Equations.{Part, IsPolicyLevel, equations_over}
 use Rattle.kn_meaning.specs.Proofs as proof
 use Rattle.kn_history.specs.History.{NumberedText}
 use Rattle.kn_daemon.specs.Daemon.{parts_of}
+use Rattle.kn_rows.proofs.NamesAdded.{length-with_names}
 use Rattle.kn_answer.specs.Removed.{live_parts}
-use Rattle.kn_answer.proofs.NamesAdded.{length-with_names}
 use Rattle.kn_query.specs.Following.{live_credentials}
 use Rattle.kn_query.proofs.Rows.{live-parts}
 use Rattle.kn_query.proofs.shared_base.SharedBase.answer.Goals as goal

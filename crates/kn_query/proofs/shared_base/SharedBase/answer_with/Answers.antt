@@ -8,10 +8,10 @@ use Rattle.kn_history.specs.History.{NumberedText}
 use Rattle.kn_session.specs.Views.{numbered_text}
 use Rattle.kn_daemon.specs.Daemon.{parts_of}
 use Rattle.kn_principal.specs.Principals.{policy}
-use Rattle.kn_answer.specs.Based.{AreBaseRows}
-use Rattle.kn_answer.specs.Numbering.{AreDistinct, IsNumber}
+use Rattle.kn_rows.specs.BaseRows.{AreBaseRows}
+use Rattle.kn_rows.specs.Numbering.{AreDistinct, IsNumber}
+use Rattle.kn_rows.specs.Sizes.{IsReadablePart, total_size}
 use Rattle.kn_answer.specs.Removed.{live_parts}
-use Rattle.kn_answer.specs.Sizes.{IsReadablePart, total_size}
 use Rattle.kn_query.specs.Following.{live_credentials}
 use Rattle.kn_query.specs.SharedBases.{HasCredentials}
 use Rattle.kn_query.specs.SharedParts.{private_parts, shared_parts}

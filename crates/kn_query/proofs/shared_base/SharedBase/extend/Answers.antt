@@ -7,8 +7,8 @@ use Rattle.kn_history.specs.declared.update.Update.{Update}
 use Rattle.kn_history.specs.History.{NumberedText, additions, all_changes, credentials_of, text_bytes}
 use Rattle.kn_history.specs.Ids.{IdsAscend}
 use Rattle.kn_daemon.specs.Daemon.{parts_of}
-use Rattle.kn_answer.specs.Based.{IsBaseOf}
-use Rattle.kn_answer.specs.Sizes.{HaveTexts, IsReadablePart, total_size}
+use Rattle.kn_rows.specs.BaseRows.{IsBaseOf}
+use Rattle.kn_rows.specs.Sizes.{HaveTexts, IsReadablePart, total_size}
 use Rattle.kn_query.specs.Following.{AreUpTo, live_credentials}
 use Rattle.kn_query.specs.SharedParts.{AreRead}
 use Rattle.kn_query.proofs.LaterVersions.{additions-grow, all-both, newer-above, newer-up_to, up_to-more}

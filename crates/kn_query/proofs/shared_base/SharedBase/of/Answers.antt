@@ -6,8 +6,8 @@ use Rattle.kn_history.specs.declared.update.Update.{Update}
 use Rattle.kn_history.specs.History.{NumberedText, additions, all_changes, credentials_of}
 use Rattle.kn_history.specs.Ids.{IdsAscend}
 use Rattle.kn_daemon.specs.Daemon.{parts_of}
-use Rattle.kn_answer.specs.Based.{IsBaseOf}
-use Rattle.kn_answer.specs.Sizes.{HaveTexts, total_size}
+use Rattle.kn_rows.specs.BaseRows.{IsBaseOf}
+use Rattle.kn_rows.specs.Sizes.{HaveTexts, total_size}
 use Rattle.kn_query.specs.Following.{AreUpTo, live_credentials}
 use Rattle.kn_query.specs.SharedParts.{shared_parts}
 use Rattle.kn_query.proofs.LaterVersions.{ids-up_to}

@@ -5,7 +5,7 @@ use Rattle.kn_proof.specs.declared.named.Id.TheVariants.{Shared}
 use Rattle.kn_meaning.specs.Equations.{Part}
 use Rattle.kn_history.specs.History.{NumberedText}
 use Rattle.kn_daemon.specs.Daemon.{parts_of}
-use Rattle.kn_answer.specs.Numbering.{IsNumber}
+use Rattle.kn_rows.specs.Numbering.{IsNumber}
 use Rattle.kn_query.proofs.SharedParts.{id-at, parts-count}
 use Rattle.kn_query.proofs.shared_rows.SharedRowsAssertions.id.Goals as goal
 

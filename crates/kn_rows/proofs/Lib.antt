@@ -1,0 +1,12 @@
+pub mod Texts
+pub mod Names
+pub mod NamesAdded
+pub mod NewNames
+pub mod SizesAdded
+pub mod NodeSums
+pub mod FormulaFolds
+pub mod FormulaPieces
+pub mod NarrowedPieces
+pub mod Pieces
+pub mod BaseRows
+pub mod RowsOfAssertions

@@ -1,0 +1,6 @@
+pub mod Sizes
+pub mod Numbering
+pub mod BaseRows
+pub mod Narrowing
+pub mod Extending
+pub mod Spelling
