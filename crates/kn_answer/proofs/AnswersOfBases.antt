@@ -1,7 +1,7 @@
 -- A query that is answered from a base: the base is its system, and what is found there holds of the assertions that
 -- are still there.
-use Rattle.std.proofs.Common.{◌≡◌, ℕ, ◌-◌, ◌<◌, ◌≤◌, Bool, false, All, List, length, map, slice_index, sym, ◌∙◌, subst}
-use Rattle.std.proofs.Common.{arith}
+use Rattle.std.proofs.Common.{◌≡◌, ℕ, ◌-◌, ◌<◌, ◌≤◌, Bool, false, All, List, length, map, slice_index, sym, ap, ◌∙◌}
+use Rattle.std.proofs.Common.{subst, arith}
 use Rattle.std.specs.List.{list_any}
 use Rattle.std.specs.Str.{bytes_eq}
 use Rattle.kn_principal.specs.Principals.{policy}
@@ -17,13 +17,13 @@ use Rattle.kn_system.specs.Proofs.{IsProof}
 use Rattle.kn_settle.specs.QuerySystem.{query_system, IsOther}
 use Rattle.kn_settle.proofs.QuerySystems.{length-capped, length-flags, query_system-system}
 use Rattle.kn_rows.specs.Numbering.{IsSystemOf}
+use Rattle.kn_rows.specs.BaseRows.{AreNumbersOf, IsBaseOf}
+use Rattle.kn_rows.proofs.BaseRows.{length-base}
 use Rattle.kn_answer.specs.Built.{Interned}
 use Rattle.kn_answer.specs.Located.{AreLocated, AreOfSystem, IsOfSystem}
 use Rattle.kn_answer.specs.Removed.{capped_statements, kept_of, live_parts, query_equations}
-use Rattle.kn_rows.specs.BaseRows.{AreNumbersOf, IsBaseOf}
 use Rattle.kn_answer.specs.Based.{ceilings_of}
 use Rattle.kn_answer.proofs.BaseSystems.{bases-state, ids-kept, live-kept, others-numbered}
-use Rattle.kn_rows.proofs.BaseRows.{length-base}
 use Rattle.kn_answer.proofs.NamedLevels.{IsPolicyLevel-by_name}
 use Rattle.kn_answer.proofs.Capped.{ceilings-low, length-ceilings}
 use Rattle.kn_answer.proofs.RowLists.{AreOfSystem-steps, level-most}
@@ -31,9 +31,16 @@ use Rattle.kn_answer.proofs.Located.{proof-named}
 use Rattle.kn_answer.proofs.Removing.{removed}
 use Rattle.kn_answer.proofs.StatementRows.{IsStated}
 
--- what is known where the requesters have been looked up
-pub record IsAnswering (asked : Asked) (parts : List Part) (live : List Bool) (names : List (List ℕ))
-    (base : SystemEquations) (numbers : List ℕ) (levels : ℕ) : Type 0 where
+-- A query, a base in which its requesters have been looked up, and what is known of them.
+pub record Answering : Type 0 where
+  pub asked : Asked
+  pub parts : List Part
+  pub live : List Bool
+  pub names : List (List ℕ)
+  pub base : SystemEquations
+  pub numbers : List ℕ
+  pub levels : ℕ
+  pub ceilings : List ℕ
   pub count : levels ≡ length asked.values
   pub several : 2 ≤ levels
   pub few : levels ≤ 64
@@ -43,73 +50,86 @@ pub record IsAnswering (asked : Asked) (parts : List Part) (live : List Bool) (n
   pub flags : length live ≡ length base.rows
   pub are : AreNumbersOf names asked.requesters numbers
   pub others : list_any (bytes_eq policy) asked.requesters ≡ false
+  pub capped : ceilings ≡ ceilings_of asked parts live
 
-module _ (asked : Asked) (parts : List Part) (live : List Bool) (names : List (List ℕ)) (base : SystemEquations)
-    (numbers : List ℕ) (levels : ℕ) (a : IsAnswering asked parts live names base numbers levels) where
+module _ (a : Answering) where
   abbrev found : SystemEquations
-  found = query_system base levels numbers (ceilings_of asked parts live)
+  found = query_system a.base a.levels a.numbers a.ceilings
 
   abbrev all : Equations
-  all = query_equations (length asked.values - 1) asked.requesters (capped_statements (kept_of asked parts live))
+  all =
+      query_equations (length a.asked.values - 1) a.asked.requesters
+      (capped_statements (kept_of a.asked a.parts a.live))
 
   abbrev built : Interned
-  built = record { names = names; system = found; ids = map (λ part. part.id) parts }
+  built = record { names = a.names; system = found; ids = map (λ part. part.id) a.parts }
 
-  size : length live ≡ length parts
-  size = a.flags ∙ sym (length-base names parts base.rows a.is.rows)
+  size : length a.live ≡ length a.parts
+  size = a.flags ∙ sym (length-base a.names a.parts a.base.rows a.is.rows)
 
-  pub answering-others : All (IsOther (length base.requesters)) numbers
-  answering-others = others-numbered names (length base.requesters) a.one_each a.is.first asked.requesters numbers a.are
+  pub answering-others : All (IsOther (length a.base.requesters)) a.numbers
+  answering-others =
+      others-numbered a.names (length a.base.requesters) a.one_each a.is.first a.asked.requesters a.numbers a.are
       a.others
 
-  pub answering-each : length (ceilings_of asked parts live) ≡ length base.rows
-  answering-each = length-ceilings asked parts live size ∙ length-base names parts base.rows a.is.rows
+  pub answering-each : length a.ceilings ≡ length a.base.rows
+  answering-each =
+      ap length a.capped ∙ length-ceilings a.asked a.parts a.live size
+      ∙ length-base a.names a.parts a.base.rows a.is.rows
 
-  pub answering-low : All (λ ceiling. ceiling < levels) (ceilings_of asked parts live)
-  answering-low = ceilings-low asked parts live levels a.count (omega (arith, a.several))
+  pub answering-low : All (λ ceiling. ceiling < a.levels) a.ceilings
+  answering-low =
+      subst (All (λ ceiling. ceiling < a.levels)) (sym a.capped)
+      (ceilings-low a.asked a.parts a.live a.levels a.count (omega (arith, a.several)))
 
-  of : IsSystemOf all names found
+  of : IsSystemOf all a.names found
   of =
-      let some : 1 ≤ length asked.values = omega (arith, a.count, a.several) in
-      subst (λ n. IsSystemOf all names (query_system base n numbers (ceilings_of asked parts live))) (sym a.count)
-      (bases-state parts names base a.is a.one_each asked live numbers some size a.are)
+      let some : 1 ≤ length a.asked.values = omega (arith, a.count, a.several) in
+      subst (λ cs. IsSystemOf all a.names (query_system a.base a.levels a.numbers cs)) (sym a.capped)
+      (subst (λ n. IsSystemOf all a.names (query_system a.base n a.numbers (ceilings_of a.asked a.parts a.live)))
+      (sym a.count) (bases-state a.parts a.names a.base a.is a.one_each a.asked a.live a.numbers some size a.are))
 
   stated : IsStated all built
   stated = record {
-    well_formed = query_system-system base levels numbers (ceilings_of asked parts live) a.well_formed a.several a.few
+    well_formed = query_system-system a.base a.levels a.numbers a.ceilings a.well_formed a.several a.few
         answering-others answering-low;
     of = of;
-    ids = sym (ids-kept asked parts live size);
+    ids = sym (ids-kept a.asked a.parts a.live size);
   }
 
   -- the numbers in a proof's rows are those of principals and rows of the base
-  pub answering-rows : (rows : List Row) (value : ℕ) → IsProof found rows value → AreOfSystem base rows
+  pub answering-rows : (rows : List Row) (value : ℕ) → IsProof found rows value → AreOfSystem a.base rows
   answering-rows rows value proves = λ k d l.
       let is : IsOfSystem found _ = AreOfSystem-steps found (at_first found) rows proves.steps k d l in
       record {
-        principal = omega (arith, is.principal, length-flags numbers 0 (length base.requesters));
-        by = omega (arith, is.by, length-capped (ceilings_of asked parts live) 0 base.rows);
+        principal = omega (arith, is.principal, length-flags a.numbers 0 (length a.base.requesters));
+        by = omega (arith, is.by, length-capped a.ceilings 0 a.base.rows);
       }
 
-  pub answering-proof : (named : List NamedRow) (rows : List Row) (value : ℕ) → AreLocated built named rows
-      → IsProof found rows value → proof.IsProof (equations_over asked (live_parts parts live)) named value
-  answering-proof named rows value are proves =
-      subst (λ (ss : List Statement). proof.IsProof (query_equations (length asked.values - 1) asked.requesters ss)
-      named value) (live-kept asked parts live)
-      ((removed (length asked.values - 1) asked.requesters (kept_of asked parts live)).proof named value
-      (proof-named all built stated named rows are value proves))
+  pub answering-proof : (named : List NamedRow) (rows : List Row) (least value : ℕ) → AreLocated built named rows
+      → IsProof found rows least → value ≡ least
+      → proof.IsProof (equations_over a.asked (live_parts a.parts a.live)) named value
+  answering-proof named rows least value are proves same =
+      subst (proof.IsProof (equations_over a.asked (live_parts a.parts a.live)) named) (sym same)
+      (subst (λ (ss : List Statement). proof.IsProof (query_equations (length a.asked.values - 1) a.asked.requesters
+      ss) named least) (live-kept a.asked a.parts a.live)
+      ((removed (length a.asked.values - 1) a.asked.requesters (kept_of a.asked a.parts a.live)).proof named least
+      (proof-named all built stated named rows are least proves)))
 
-  pub answering-least : IsLeast found (least_levels found)
-      → IsPolicyLevel (equations_over asked (live_parts parts live)) (slice_index (least_levels found) 0)
-  answering-least least =
-      subst (λ (ss : List Statement). IsPolicyLevel (query_equations (length asked.values - 1) asked.requesters ss)
-      (slice_index (least_levels found) 0)) (live-kept asked parts live)
-      ((removed (length asked.values - 1) asked.requesters (kept_of asked parts live)).level
-      (slice_index (least_levels found) 0) (IsPolicyLevel-by_name all names found of (least_levels found) least))
+  pub answering-least : IsLeast found (least_levels found) → (value : ℕ) → value ≡ slice_index (least_levels found) 0
+      → IsPolicyLevel (equations_over a.asked (live_parts a.parts a.live)) value
+  answering-least least value same =
+      subst (IsPolicyLevel (equations_over a.asked (live_parts a.parts a.live))) (sym same)
+      (subst (λ (ss : List Statement). IsPolicyLevel (query_equations (length a.asked.values - 1) a.asked.requesters
+      ss) (slice_index (least_levels found) 0)) (live-kept a.asked a.parts a.live)
+      ((removed (length a.asked.values - 1) a.asked.requesters (kept_of a.asked a.parts a.live)).level
+      (slice_index (least_levels found) 0)
+      (IsPolicyLevel-by_name all a.names found of (least_levels found) least)))
 
   pub answering-below : (named : List NamedRow) (value : ℕ)
-      → proof.IsProof (equations_over asked (live_parts parts live)) named value → value < length asked.values
+      → proof.IsProof (equations_over a.asked (live_parts a.parts a.live)) named value
+      → value < length a.asked.values
   answering-below named value proves =
-      let most : value ≤ length asked.values - 1 =
-      level-most (equations_over asked (live_parts parts live)) named value proves in
+      let most : value ≤ length a.asked.values - 1 =
+      level-most (equations_over a.asked (live_parts a.parts a.live)) named value proves in
       omega (arith, most, a.count, a.several)

@@ -1,6 +1,6 @@
 -- The pieces of formulas have their levels, depths and nodes.
 use Rattle.std.proofs.Common.{◌≡◌, ℕ, suc, zero, ◌+◌, ◌<◌, ◌≤◌, max, List, [], ◌∷◌, ◌++◌, slice_index, get_or, length}
-use Rattle.std.proofs.Common.{map, flat_map, take, drop, Some, None, refl, sym, ap, subst, ◌∙◌, arith}
+use Rattle.std.proofs.Common.{map, flat_map, take, drop, Option, Some, None, refl, sym, ap, subst, ◌∙◌, arith}
 use Rattle.std.proofs.Math.Seq.{take-append_seam, drop-append_seam}
 use Rattle.std.proofs.lemmas.List.{length-map, length-append, map-append, append_assoc, append-nil}
 use Rattle.std.proofs.lemmas.Option.{slice_get_within, slice_get-get_or}
@@ -192,7 +192,7 @@ AddsSpelled-gate names need parts formula old new need_one gate adds = record {
 }
 
 -- the one formula of pieces without others
-pub IsFormula-alone : (names : List (List ℕ)) (formula : Formula) (pieces : List Piece) → formula_depth formula ≤ 200
+IsFormula-alone : (names : List (List ℕ)) (formula : Formula) (pieces : List Piece) → formula_depth formula ≤ 200
     → AreSpelled names (formula ∷ []) pieces → IsFormula (length names) pieces
 IsFormula-alone names formula pieces shallow are =
     let alone : pieces ++ [] ≡ pieces = append-nil pieces in
@@ -203,25 +203,50 @@ IsFormula-alone names formula pieces shallow are =
       shallow = omega arith;
     }
 
-pub SpellLicensees-alone : (names : List (List ℕ)) (formula : Formula) (pieces : List Piece)
+SpellLicensees-alone : (names : List (List ℕ)) (formula : Formula) (pieces : List Piece)
     → AreSpelled names (formula ∷ []) pieces → (top : ℕ) → SpellLicensees top names (Some formula) pieces
 SpellLicensees-alone names formula pieces are top at levels have =
     ap (λ ps. slice_index (form_levels top levels ps) 0) (sym (append-nil pieces))
     ∙ ap (λ ls. slice_index ls 0) (are.levels top at levels [] have)
 
 -- the pieces of a field with one formula
-pub ArePiecesOf-alone : (names : List (List ℕ)) (formula : Formula) (pieces : List Piece)
+ArePiecesOf-alone : (names : List (List ℕ)) (formula : Formula) (pieces : List Piece)
     → AreSpelled names (formula ∷ []) pieces → ArePiecesOf names (licensees_pieces (Some formula)) pieces
 ArePiecesOf-alone names formula pieces are =
     subst (λ named. ArePiecesOf names named pieces) (append-nil (formula_pieces formula)) are.pieces_of
 
 -- no part has the level 0
-pub SpellLicensees-none : (top : ℕ) (names : List (List ℕ)) → SpellLicensees top names None (P.Gate 1 0 ∷ [])
+SpellLicensees-none : (top : ℕ) (names : List (List ℕ)) → SpellLicensees top names None (P.Gate 1 0 ∷ [])
 SpellLicensees-none top names at levels have = none_reach top
   where
     none_reach : (n : ℕ) → threshold n 1 [] ≡ 0
     none_reach zero = refl
     none_reach (suc n) = none_reach n
+
+-- no parts
+IsFormula-none : (names : List (List ℕ)) → IsFormula (length names) (P.Gate 1 0 ∷ [])
+IsFormula-none names = record { one = (omega arith, tt); shallow = omega arith }
+
+-- The pieces are those of a Licensees field, which is one formula over the names.
+pub record IsField (names : List (List ℕ)) (licensees : Option Formula) (pieces : List Piece) : Type 0 where
+  pub pieces_of : ArePiecesOf names (licensees_pieces licensees) pieces
+  pub level : (top : ℕ) → SpellLicensees top names licensees pieces
+  pub one_formula : IsFormula (length names) pieces
+
+pub IsField-Some : (names : List (List ℕ)) (formula : Formula) (pieces : List Piece) → formula_depth formula ≤ 200
+    → AreSpelled names (formula ∷ []) pieces → IsField names (Some formula) pieces
+IsField-Some names formula pieces shallow are = record {
+  pieces_of = ArePiecesOf-alone names formula pieces are;
+  level = SpellLicensees-alone names formula pieces are;
+  one_formula = IsFormula-alone names formula pieces shallow are;
+}
+
+pub IsField-None : (names : List (List ℕ)) → IsField names None (P.Gate 1 0 ∷ [])
+IsField-None names = record {
+  pieces_of = ((refl, refl), tt);
+  level = λ top. SpellLicensees-none top names;
+  one_formula = IsFormula-none names;
+}
 
 -- one part more
 pub AddsSpelled-then : (before after : List (List ℕ)) → Keeps before after
@@ -244,10 +269,6 @@ AddsGate-parts names need parts old between new gate adds = record {
       ∙ append_assoc old (P.Gate need (length parts) ∷ []) adds.pieces;
   spelled = adds.spelled;
 }
-
--- no parts
-pub IsFormula-none : (names : List (List ℕ)) → IsFormula (length names) (P.Gate 1 0 ∷ [])
-IsFormula-none names = record { one = (omega arith, tt); shallow = omega arith }
 
 -- what was added behind nothing
 pub AddsSpelled-first : (names : List (List ℕ)) (formulas : List Formula) (old new : List Piece) → old ≡ []

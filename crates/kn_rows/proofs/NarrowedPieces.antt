@@ -13,16 +13,15 @@ use Rattle.kn_trees.specs.declared.formula.Formula.TheOpen.Formula-F.{Who, All, 
 use Rattle.kn_trees.specs.declared.formula.Formula.TheFolds.{map-Formula, ind-Formula}
 use Rattle.kn_trees.specs.Formulas.{total, formula_nodes, greatest_of, formula_depth, field_nodes, IsReadable}
 use Rattle.kn_system.specs.declared.rows.Piece.{Piece}
-use Rattle.kn_system.specs.Forms.{IsFormula}
 use Rattle.kn_system.specs.declared.rows.Piece.TheVariants as P
 use Rattle.kn_rows.specs.Narrowing.{narrowed_step, narrowed_formula}
-use Rattle.kn_rows.specs.Numbering.{IsNumber, IsAbsent, ArePiecesOf, SpellLicensees, licensees_pieces}
+use Rattle.kn_rows.specs.Numbering.{IsNumber, IsAbsent}
 use Rattle.kn_rows.specs.Spelling.{AreSpelled}
 use Rattle.kn_rows.proofs.Names.{number-among, absent-among}
 use Rattle.kn_rows.proofs.FormulaFolds.{fold-Who, fold-All, fold-Any, fold-Threshold, formula_nodes-Who}
 use Rattle.kn_rows.proofs.FormulaFolds.{formula_depth-Who, IsGate, IsGate-All, IsGate-Any, IsGate-Threshold}
-use Rattle.kn_rows.proofs.FormulaPieces.{AreSpelled-none, AreSpelled-Who, AreSpelled-gate, ArePiecesOf-alone}
-use Rattle.kn_rows.proofs.FormulaPieces.{SpellLicensees-alone, SpellLicensees-none, IsFormula-alone, IsFormula-none}
+use Rattle.kn_rows.proofs.FormulaPieces.{AreSpelled-none, AreSpelled-Who, AreSpelled-gate, IsField, IsField-None}
+use Rattle.kn_rows.proofs.FormulaPieces.{IsField-Some}
 
 -- a principal without a number becomes a formula over no parts
 narrowed-Who : (names : List (List ℕ)) (name : List ℕ)
@@ -147,9 +146,7 @@ narrowed-more names parts i part within here =
 
 -- The pieces are those of a narrowed field, which is one formula over the names.
 pub record IsNarrowedField (names : List (List ℕ)) (licensees : Option Formula) (pieces : List Piece) : Type 0 where
-  pub pieces_of : ArePiecesOf names (licensees_pieces (option_map (narrowed_formula names) licensees)) pieces
-  pub level : (top : ℕ) → SpellLicensees top names (option_map (narrowed_formula names) licensees) pieces
-  pub one_formula : IsFormula (length names) pieces
+  pub field : IsField names (option_map (narrowed_formula names) licensees) pieces
   pub short : length pieces ≤ 1 + field_nodes licensees
 
 pub IsNarrowedField-Some : (names : List (List ℕ)) (formula : Formula) (bytes : ℕ) (pieces : List Piece)
@@ -159,16 +156,9 @@ IsNarrowedField-Some names formula bytes pieces readable are =
     let large : IsAsLarge names formula = narrowed-large names formula in
     let shallow : formula_depth formula ≤ 200 = readable.shallow in
     record {
-      pieces_of = ArePiecesOf-alone names (narrowed_formula names formula) pieces are;
-      level = SpellLicensees-alone names (narrowed_formula names formula) pieces are;
-      one_formula = IsFormula-alone names (narrowed_formula names formula) pieces (omega (arith, large.depth)) are;
+      field = IsField-Some names (narrowed_formula names formula) pieces (omega (arith, shallow, large.depth)) are;
       short = omega (arith, large.nodes, are.nodes);
     }
 
 pub IsNarrowedField-None : (names : List (List ℕ)) → IsNarrowedField names None (P.Gate 1 0 ∷ [])
-IsNarrowedField-None names = record {
-  pieces_of = ((refl, refl), tt);
-  level = λ top. SpellLicensees-none top names;
-  one_formula = IsFormula-none names;
-  short = omega arith;
-}
+IsNarrowedField-None names = record { field = IsField-None names; short = omega arith }

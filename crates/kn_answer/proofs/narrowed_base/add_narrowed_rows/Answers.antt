@@ -10,58 +10,62 @@ use Rattle.kn_system.specs.Equations.{SystemEquations}
 use Rattle.kn_rows.specs.declared.numbered.Numbered.{Numbered}
 use Rattle.kn_rows.specs.BaseRows.{IsBaseOf}
 use Rattle.kn_rows.specs.Extending.{AddsNarrowedRow}
-use Rattle.kn_answer.specs.Narrowed.{narrowed_part}
 use Rattle.kn_rows.specs.Numbering.{IsNumber}
 use Rattle.kn_rows.specs.Sizes.{size_of, total_size}
-use Rattle.kn_answer.proofs.NarrowedBases.{authorizer-here, narrowed-base, narrowed-nodes}
 use Rattle.kn_rows.proofs.NewNames.{among_one, is_among}
 use Rattle.kn_rows.proofs.SizesAdded.{total_size-drop, total_size-longer, total_size-split}
+use Rattle.kn_answer.specs.Narrowed.{narrowed_part}
+use Rattle.kn_answer.proofs.NarrowedBases.{authorizer-here, narrowed-base, narrowed-nodes}
+use Rattle.kn_answer.proofs.narrowed_base.add_narrowed_rows.Goals.{After-part-item}
 use Rattle.kn_answer.proofs.narrowed_base.add_narrowed_rows.Goals as goal
+
+-- the assertion at hand is the next one
+within : (c : After-part-item) → c.loop-part.part-index < length c.args.list.now
+within c = omega (arith, ap length c.as_slice-part-items.ensures)
+
+next_part : (c : After-part-item)
+    → c.part-item.result ≡ get_or c.args.list.now c.loop-part.part-index c.part-item.result
+next_part c = c.part-item.is
+    ∙ ap (λ ps. get_or ps c.loop-part.part-index c.part-item.result) c.as_slice-part-items.ensures
 
 pub add_narrowed_row-requires-clause-authorizer : goal.add_narrowed_row-requires-clause-authorizer
 add_narrowed_row-requires-clause-authorizer c = λ name among.
+    let at = (goal.at.add_narrowed_row-requires-clause-authorizer c).After-part-item in
     let i : ℕ = c.loop-part.part-index in
     let list : List Part = c.args.list.now in
     let part : Part = c.part-item.result in
     let authorizers : List (List ℕ) = map (λ (p : Part). p.assertion.authorizer) list in
-    let items : c.as_slice-part-items.result.now ≡ list = c.as_slice-part-items.ensures in
-    let within : i < length list = omega (arith, ap length items) in
     let size : length authorizers ≡ length list = length-map _ _ in
-    let here : part ≡ get_or list i part = c.part-item.is ∙ ap (λ xs. get_or xs i part) items in
     let own : name ≡ part.assertion.authorizer = among_one name c.part.inside.assertion.now.authorizer among
     ∙ ap (λ (p : Part). p.assertion.authorizer) c.part.view_is in
     let authorizes : list_any (bytes_eq part.assertion.authorizer) authorizers ≡ true =
-    is_among authorizers i part.assertion.authorizer (omega (arith, within, size))
-    (authorizer-here list i part within here) in
+    is_among authorizers i part.assertion.authorizer (omega (arith, within at, size))
+    (authorizer-here list i part (within at) (next_part at)) in
     subst (λ (names : List (List ℕ)). (p : ℕ) × IsNumber names name p) (sym c.loop-part.invariant.names)
     (c.requires.authorizers name (subst (λ n. list_any (bytes_eq n) authorizers ≡ true) (sym own) authorizes))
 
 pub add_narrowed_row-requires-clause-nodes_fit : goal.add_narrowed_row-requires-clause-nodes_fit
 add_narrowed_row-requires-clause-nodes_fit c =
+    let at = (goal.at.add_narrowed_row-requires-clause-nodes_fit c).After-part-item in
     let i : ℕ = c.loop-part.part-index in
     let list : List Part = c.args.list.now in
     let part : Part = c.part-item.result in
-    let items : c.as_slice-part-items.result.now ≡ list = c.as_slice-part-items.ensures in
-    let within : i < length list = omega (arith, ap length items) in
-    let here : part ≡ get_or list i part = c.part-item.is ∙ ap (λ xs. get_or xs i part) items in
-    let rest = total_size-drop list i part within here in
+    let rest = total_size-drop list i part (within at) (next_part at) in
     let own : field_nodes c.part.inside.assertion.now.licensees ≡ field_nodes part.assertion.licensees =
     ap (λ (p : Part). field_nodes p.assertion.licensees) c.part.view_is in
     omega (arith, rest, own, total_size-split list i, c.loop-part.invariant.nodes, c.requires.nodes_fit)
 
 pub loop-part-preserved : goal.loop-part-preserved
 loop-part-preserved c =
+    let at = (goal.at.loop-part-preserved c).After-part-item in
     let i : ℕ = c.loop-part.part-index in
     let list : List Part = c.args.list.now in
     let part : Part = c.part-item.result in
     let old : Numbered = c.loop-part.numbered in
     let new : Numbered = c.add_narrowed_row.new.self in
     let narrow : Part → Part = narrowed_part c.args.numbered.now.names in
-    let items : c.as_slice-part-items.result.now ≡ list = c.as_slice-part-items.ensures in
-    let within : i < length list = omega (arith, ap length items) in
-    let here : part ≡ get_or list i part = c.part-item.is ∙ ap (λ xs. get_or xs i part) items in
-    let longer : take i list ++ part ∷ [] ≡ take (i + 1) list = ap (λ x. take i list ++ x ∷ []) here
-    ∙ sym (take_more list i part within) in
+    let longer : take i list ++ part ∷ [] ≡ take (i + 1) list =
+    ap (λ x. take i list ++ x ∷ []) (next_part at) ∙ sym (take_more list i part (within at)) in
     let size : total_size (take (i + 1) list) ≡ total_size (take i list) + size_of part = ap total_size (sym longer)
     ∙ total_size-longer (take i list) part in
     let adds : AddsNarrowedRow part.assertion 0 old new =

@@ -1,11 +1,12 @@
-use Rattle.std.proofs.Common.{◌≡◌, ◌+◌, ◌<◌, ℕ, List, [], ◌∷◌, ◌++◌, length, get_or, replicate, take, true, sym, ap}
-use Rattle.std.proofs.Common.{◌∙◌, subst, arith, append_assoc}
+use Rattle.std.proofs.Common.{◌≡◌, ◌+◌, ◌<◌, ◌≤◌, ℕ, List, [], ◌∷◌, ◌++◌, length, get_or, replicate, take, true, sym}
+use Rattle.std.proofs.Common.{ap, ◌∙◌, subst, arith, append_assoc}
 use Rattle.std.proofs.lemmas.List.{append-nil, replicate_more, take_all, take_more}
 use Rattle.kn_meaning.specs.Equations.{Part}
 use Rattle.kn_rows.specs.BaseRows.{IsBaseOf}
 use Rattle.kn_rows.specs.Sizes.{IsReadablePart, size_of, total_size}
 use Rattle.kn_rows.proofs.SizesAdded.{total_size-drop, total_size-longer, total_size-split}
 use Rattle.kn_answer.proofs.LongerBases.{goes-on-after, goes-on-same}
+use Rattle.kn_answer.proofs.base.Base.extend_all.Goals.{After-part-item}
 use Rattle.kn_answer.proofs.base.Base.extend_all.Goals as goal
 
 pub loop-part-init : goal.loop-part-init
@@ -18,51 +19,45 @@ loop-part-init c = record {
   goes_on = goes-on-same c.args.self;
 }
 
+-- the assertion at hand is the next one
+within : (c : After-part-item) → c.loop-part.part-index < length c.args.list.now
+within c = omega (arith, ap length c.as_slice-part-items.ensures)
+
+next_part : (c : After-part-item)
+    → c.part-item.result ≡ get_or c.args.list.now c.loop-part.part-index c.part-item.result
+next_part c = c.part-item.is
+    ∙ ap (λ ps. get_or ps c.loop-part.part-index c.part-item.result) c.as_slice-part-items.ensures
+
+-- with those before it, it is no more than all
+room : (c : After-part-item)
+    → total_size (take c.loop-part.part-index c.args.list.now) + size_of c.part-item.result
+    ≤ total_size c.args.list.now
+room c =
+    let i : ℕ = c.loop-part.part-index in
+    let list : List Part = c.args.list.now in
+    let rest = total_size-drop list i c.part-item.result (within c) (next_part c) in
+    omega (arith, rest, total_size-split list i)
+
 pub extend-requires-clause-readable : goal.extend-requires-clause-readable
 extend-requires-clause-readable c =
-    let items : c.as_slice-part-items.result.now ≡ c.args.list.now = c.as_slice-part-items.ensures in
-    let within : c.loop-part.part-index < length c.args.list.now = omega (arith, ap length items) in
-    subst IsReadablePart (sym (c.part-item.is ∙ ap (λ xs. get_or xs c.loop-part.part-index c.part-item.result) items))
-    (c.requires.readable c.loop-part.part-index c.part-item.result within)
+    subst IsReadablePart (sym (next_part c))
+    (c.requires.readable c.loop-part.part-index c.part-item.result (within c))
 
 pub extend-requires-clause-names_fit : goal.extend-requires-clause-names_fit
-extend-requires-clause-names_fit c =
-    let items : c.as_slice-part-items.result.now ≡ c.args.list.now = c.as_slice-part-items.ensures in
-    let within : c.loop-part.part-index < length c.args.list.now = omega (arith, ap length items) in
-    let rest = total_size-drop c.args.list.now c.loop-part.part-index c.part-item.result within (c.part-item.is
-    ∙ ap (λ xs. get_or xs c.loop-part.part-index c.part-item.result) items) in
-    omega (
-      arith,
-      rest,
-      total_size-split c.args.list.now c.loop-part.part-index,
-      c.loop-part.invariant.names,
-      c.requires.names_fit,
-    )
+extend-requires-clause-names_fit c = omega (arith, room c, c.loop-part.invariant.names, c.requires.names_fit)
 
 pub extend-requires-clause-nodes_fit : goal.extend-requires-clause-nodes_fit
-extend-requires-clause-nodes_fit c =
-    let items : c.as_slice-part-items.result.now ≡ c.args.list.now = c.as_slice-part-items.ensures in
-    let within : c.loop-part.part-index < length c.args.list.now = omega (arith, ap length items) in
-    let rest = total_size-drop c.args.list.now c.loop-part.part-index c.part-item.result within (c.part-item.is
-    ∙ ap (λ xs. get_or xs c.loop-part.part-index c.part-item.result) items) in
-    omega (
-      arith,
-      rest,
-      total_size-split c.args.list.now c.loop-part.part-index,
-      c.loop-part.invariant.nodes,
-      c.requires.nodes_fit,
-    )
+extend-requires-clause-nodes_fit c = omega (arith, room c, c.loop-part.invariant.nodes, c.requires.nodes_fit)
 
 pub loop-part-preserved : goal.loop-part-preserved
 loop-part-preserved c =
+    let at = goal.at.loop-part-preserved c in
     let i : ℕ = c.loop-part.part-index in
     let list : List Part = c.args.list.now in
-    let items : c.as_slice-part-items.result.now ≡ list = c.as_slice-part-items.ensures in
     let a : Part = c.part-item.result in
-    let within : i < length list = omega (arith, ap length items) in
-    let here : a ≡ get_or list i a = c.part-item.is ∙ ap (λ xs. get_or xs i a) items in
-    let longer : take i list ++ a ∷ [] ≡ take (i + 1) list = ap (λ x. take i list ++ x ∷ []) here
-    ∙ sym (take_more list i a within) in
+    let longer : take i list ++ a ∷ [] ≡ take (i + 1) list =
+    ap (λ x. take i list ++ x ∷ []) (next_part at.After-part-item)
+    ∙ sym (take_more list i a (within at.After-part-item)) in
     let size : total_size (take (i + 1) list) ≡ total_size (take i list) + size_of a = ap total_size (sym longer)
     ∙ total_size-longer (take i list) a in
     record {

@@ -4,64 +4,70 @@ use Rattle.std.proofs.lemmas.List.{replicate_more, take_all, take_more}
 use Rattle.kn_meaning.specs.Equations.{Part}
 use Rattle.kn_rows.specs.BaseRows.{IsBaseOf}
 use Rattle.kn_rows.specs.Numbering.{with_names}
-use Rattle.kn_answer.specs.Removed.{live_parts}
 use Rattle.kn_rows.specs.Sizes.{IsReadablePart, size_of, total_size}
-use Rattle.kn_answer.proofs.Capped.{live-all}
 use Rattle.kn_rows.proofs.NamesAdded.{length-with_names}
 use Rattle.kn_rows.proofs.Pieces.{nodes-front, rows-nodes}
 use Rattle.kn_rows.proofs.SizesAdded.{total_size-drop, total_size-longer, total_size-split}
 use Rattle.kn_rows.proofs.Texts.{texts_readable, texts_small}
+use Rattle.kn_answer.specs.Removed.{live_parts}
+use Rattle.kn_answer.proofs.Capped.{live-all}
+use Rattle.kn_answer.proofs.base.Base.of.Goals.{After-part-item, In_ok-longer}
 use Rattle.kn_answer.proofs.base.Base.of.Goals as goal
+
+-- the assertion at hand is the next one
+within : (c : After-part-item) → c.loop-part.part-index < length c.args.list.now
+within c = omega (arith, ap length c.as_slice-part-items.ensures)
+
+next_part : (c : After-part-item)
+    → c.part-item.result ≡ get_or c.args.list.now c.loop-part.part-index c.part-item.result
+next_part c = c.part-item.is
+    ∙ ap (λ ps. get_or ps c.loop-part.part-index c.part-item.result) c.as_slice-part-items.ensures
+
+-- with those before it, it is the first ones
+longer : (c : After-part-item)
+    → take c.loop-part.part-index c.args.list.now ++ c.part-item.result ∷ []
+    ≡ take (c.loop-part.part-index + 1) c.args.list.now
+longer c =
+    ap (λ part. take c.loop-part.part-index c.args.list.now ++ part ∷ []) (next_part c)
+    ∙ sym (take_more c.args.list.now c.loop-part.part-index c.part-item.result (within c))
+
+-- and they have room together
+room : (c : After-part-item)
+    → 65 + total_size (take c.loop-part.part-index c.args.list.now) + size_of c.part-item.result < 2 ^ 24
+room c =
+    let i : ℕ = c.loop-part.part-index in
+    let list : List Part = c.args.list.now in
+    let small = texts_small c.readings_are_computed.ensures.reading c.readings_are_sound.ensures list c.requires in
+    let rest = total_size-drop list i c.part-item.result (within c) (next_part c) in
+    omega (arith, rest, small, total_size-split list i)
 
 pub extend-requires-clause-readable : goal.extend-requires-clause-readable
 extend-requires-clause-readable c =
-    let i : ℕ = c.loop-part.part-index in
-    let list : List Part = c.args.list.now in
-    let part : Part = c.part-item.result in
-    let items : c.as_slice-part-items.result.now ≡ list = c.as_slice-part-items.ensures in
-    let within : i < length list = omega (arith, ap length items) in
-    subst IsReadablePart (sym (c.part-item.is ∙ ap (λ xs. get_or xs i part) items))
-    (texts_readable c.readings_are_computed.ensures.reading c.readings_are_sound.ensures c.requires.texts list
-    c.requires.read i part within)
+    subst IsReadablePart (sym (next_part c))
+    (texts_readable c.readings_are_computed.ensures.reading c.readings_are_sound.ensures c.requires.texts
+    c.args.list.now c.requires.read c.loop-part.part-index c.part-item.result (within c))
 
 pub extend-requires-clause-names_fit : goal.extend-requires-clause-names_fit
-extend-requires-clause-names_fit c =
-    let i : ℕ = c.loop-part.part-index in
-    let list : List Part = c.args.list.now in
-    let part : Part = c.part-item.result in
-    let small : 65 + total_size list < 2 ^ 24 =
-    texts_small c.readings_are_computed.ensures.reading c.readings_are_sound.ensures list c.requires in
-    let items : c.as_slice-part-items.result.now ≡ list = c.as_slice-part-items.ensures in
-    let within : i < length list = omega (arith, ap length items) in
-    let rest = total_size-drop list i part within (c.part-item.is ∙ ap (λ xs. get_or xs i part) items) in
-    omega (arith, rest, small, total_size-split list i, c.loop-part.invariant.names)
+extend-requires-clause-names_fit c = omega (arith, room c, c.loop-part.invariant.names)
 
 pub extend-requires-clause-nodes_fit : goal.extend-requires-clause-nodes_fit
-extend-requires-clause-nodes_fit c =
-    let i : ℕ = c.loop-part.part-index in
-    let list : List Part = c.args.list.now in
-    let part : Part = c.part-item.result in
-    let small : 65 + total_size list < 2 ^ 24 =
-    texts_small c.readings_are_computed.ensures.reading c.readings_are_sound.ensures list c.requires in
-    let items : c.as_slice-part-items.result.now ≡ list = c.as_slice-part-items.ensures in
-    let within : i < length list = omega (arith, ap length items) in
-    let rest = total_size-drop list i part within (c.part-item.is ∙ ap (λ xs. get_or xs i part) items) in
-    omega (arith, rest, small, total_size-split list i, c.loop-part.invariant.nodes)
+extend-requires-clause-nodes_fit c = omega (arith, room c, c.loop-part.invariant.nodes)
+
+-- the longer base is that of the first assertions
+of_first : (c : In_ok-longer) (first : List Part)
+    → take c.loop-part.part-index c.args.list.now ++ c.part-item.result ∷ [] ≡ first
+    → IsBaseOf first c.in_ok-longer.longer.names c.in_ok-longer.longer.system
+of_first c first same =
+    subst (λ (ps : List Part). IsBaseOf ps c.in_ok-longer.longer.names c.in_ok-longer.longer.system) same
+    (c.in_ok-longer.ensures.base (take c.loop-part.part-index c.args.list.now) c.loop-part.invariant.base)
 
 -- the formulas so far have too many nodes, so all have
 pub returns-then-nodes-most_nodes-clause-none : goal.returns-then-nodes-most_nodes-clause-none
 returns-then-nodes-most_nodes-clause-none c = λ none asked.
     let i : ℕ = c.loop-part.part-index in
     let list : List Part = c.args.list.now in
-    let part : Part = c.part-item.result in
-    let items : c.as_slice-part-items.result.now ≡ list = c.as_slice-part-items.ensures in
-    let within : i < length list = omega (arith, ap length items) in
-    let here : part ≡ get_or list i part = c.part-item.is ∙ ap (λ xs. get_or xs i part) items in
-    let longer : take i list ++ part ∷ [] ≡ take (i + 1) list = ap (λ x. take i list ++ x ∷ []) here
-    ∙ sym (take_more list i part within) in
-    let of : IsBaseOf (take (i + 1) list) c.in_ok-longer.longer.names c.in_ok-longer.longer.system =
-    subst (λ (ps : List Part). IsBaseOf ps c.in_ok-longer.longer.names c.in_ok-longer.longer.system) longer
-    (c.in_ok-longer.ensures.base (take i list) c.loop-part.invariant.base) in
+    let at = goal.at.returns-then-nodes-most_nodes-clause-none c in
+    let of = of_first at.In_ok-longer (take (i + 1) list) (longer at.After-part-item) in
     omega (
       arith,
       rows-nodes asked c.in_ok-longer.longer.names (take (i + 1) list) c.in_ok-longer.longer.system.rows of.rows,
@@ -74,17 +80,12 @@ pub loop-part-preserved : goal.loop-part-preserved
 loop-part-preserved c =
     let i : ℕ = c.loop-part.part-index in
     let list : List Part = c.args.list.now in
-    let part : Part = c.part-item.result in
-    let items : c.as_slice-part-items.result.now ≡ list = c.as_slice-part-items.ensures in
-    let within : i < length list = omega (arith, ap length items) in
-    let here : part ≡ get_or list i part = c.part-item.is ∙ ap (λ xs. get_or xs i part) items in
-    let longer : take i list ++ part ∷ [] ≡ take (i + 1) list = ap (λ x. take i list ++ x ∷ []) here
-    ∙ sym (take_more list i part within) in
-    let size : total_size (take (i + 1) list) ≡ total_size (take i list) + size_of part = ap total_size (sym longer)
-    ∙ total_size-longer (take i list) part in
+    let at = goal.at.loop-part-preserved c in
+    let first = longer at.After-part-item in
+    let size : total_size (take (i + 1) list) ≡ total_size (take i list) + size_of c.part-item.result =
+    ap total_size (sym first) ∙ total_size-longer (take i list) c.part-item.result in
     record {
-      base = subst (λ (ps : List Part). IsBaseOf ps c.in_ok-longer.longer.names c.in_ok-longer.longer.system) longer
-          (c.in_ok-longer.ensures.base (take i list) c.loop-part.invariant.base);
+      base = of_first at.In_ok-longer (take (i + 1) list) first;
       live = c.in_ok-longer.ensures.live ∙ ap (λ fs. fs ++ true ∷ []) c.loop-part.invariant.live
           ∙ replicate_more i true;
       names = omega (arith, size, c.loop-part.invariant.names, c.in_ok-longer.ensures.names);

@@ -37,4 +37,9 @@ field c =
 
 pub returns : goal.returns
 returns c = let is = field c in
-    record { pieces = is.pieces_of; level = is.level; one_formula = is.one_formula; short = is.short }
+    record {
+      pieces = is.field.pieces_of;
+      level = is.field.level;
+      one_formula = is.field.one_formula;
+      short = is.short;
+    }
