@@ -19,11 +19,11 @@ use Rattle.kn_system.specs.declared.rows.Piece.{Piece}
 use Rattle.kn_system.specs.declared.rows.Piece.TheVariants as P
 use Rattle.kn_system.specs.Rows.{SystemRow}
 use Rattle.kn_watch.specs.Affected.{UsesPrincipal}
-use Rattle.kn_answer.specs.Numbering.{NamedPiece, Leaf, Gate, ArePiecesOf, IsNumber, formula_pieces, licensees_pieces}
-use Rattle.kn_answer.specs.Based.{IsBaseRow}
-use Rattle.kn_answer.proofs.FormulaFolds.{formula_names-Who, formula_pieces-Who, IsGate, IsGate-All, IsGate-Any}
-use Rattle.kn_answer.proofs.FormulaFolds.{IsGate-Threshold}
-use Rattle.kn_answer.proofs.NewNames.{among_one}
+use Rattle.kn_rows.specs.Numbering.{NamedPiece, Leaf, Gate, ArePiecesOf, IsNumber, formula_pieces, licensees_pieces}
+use Rattle.kn_rows.specs.BaseRows.{IsBaseRow}
+use Rattle.kn_rows.proofs.FormulaFolds.{formula_names-Who, formula_pieces-Who, IsGate, IsGate-All, IsGate-Any}
+use Rattle.kn_rows.proofs.FormulaFolds.{IsGate-Threshold}
+use Rattle.kn_rows.proofs.NewNames.{among_one}
 
 -- each principal of the formula is one of its pieces
 abbrev HasLeaves : Formula → Type 0

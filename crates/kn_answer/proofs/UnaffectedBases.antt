@@ -11,11 +11,13 @@ use Rattle.kn_system.specs.Rows.{SystemRow}
 use Rattle.kn_system.specs.Equations.{row_at}
 use Rattle.kn_watch.specs.Affected.{is_affected}
 use Rattle.kn_watch.specs.Unaffected.{IsUnaffected}
-use Rattle.kn_answer.specs.Numbering.{AreDistinct, IsNumber}
+use Rattle.kn_rows.specs.Numbering.{AreDistinct, IsNumber}
 use Rattle.kn_answer.specs.Removed.{live_parts}
-use Rattle.kn_answer.specs.Based.{AreBaseRows, BaseView, IsBaseOf, IsBaseRow}
+use Rattle.kn_rows.specs.BaseRows.{AreBaseRows, IsBaseOf, IsBaseRow}
+use Rattle.kn_answer.specs.Based.{BaseView}
 use Rattle.kn_answer.specs.Unaffected.{KeepsPolicyLevel}
-use Rattle.kn_answer.proofs.NamedLevels.{MayHave, number_or_none}
+use Rattle.kn_rows.proofs.Names.{number_or_none}
+use Rattle.kn_answer.proofs.NamedLevels.{MayHave}
 use Rattle.kn_answer.proofs.NamedLeaves.{row-uses}
 
 abbrev is_found_affected : (flags : List Bool) (names : List (List ℕ)) (name : List ℕ) → MayHave names name → Bool

@@ -3,7 +3,8 @@ use Rattle.std.specs.Prelude.{ℕ, ◌≡◌, Bool, List, length, slice_get}
 use Rattle.std.specs.List.{Contains}
 use Rattle.kn_env.specs.Environment.{Asked}
 use Rattle.kn_meaning.specs.Equations.{Part, IsPolicyLevel, equations_over}
-use Rattle.kn_answer.specs.Based.{BaseView, IsBaseOf}
+use Rattle.kn_rows.specs.BaseRows.{IsBaseOf}
+use Rattle.kn_answer.specs.Based.{BaseView}
 use Rattle.kn_answer.specs.Removed.{live_parts}
 
 -- the flags are the same, but for those of these rows

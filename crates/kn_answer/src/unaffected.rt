@@ -4,8 +4,8 @@ ghost use Rattle.kn_watch.specs.Unaffected.{IsKnown};
 ghost use Rattle.kn_answer.specs.Unaffected.{KeepsPolicyLevel};
 
 use crate::base::Base;
-use crate::types::Tally;
 use kn_base::{NoMemory, Steps};
+use kn_rows::Tally;
 use kn_watch::is_unaffected;
 use std::alloc::Global;
 
