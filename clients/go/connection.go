@@ -1,6 +1,6 @@
 // Package keynoted asks the authorization service keynoted.
 //
-//	daemon, err := keynoted.Connect("127.0.0.1:7700")
+//	daemon, err := keynoted.Connect("127.0.0.1:2704")
 //	...
 //	answer, err := daemon.Ask(ctx, keynoted.Question{
 //		Principals: []string{"alice"},

@@ -16,7 +16,7 @@ func Example() {
 		log.Fatal(err)
 	}
 	defer os.Remove(policy)
-	daemon, err := keynoted.Start(policy, "") // keynoted.Connect("127.0.0.1:7700") for one that serves
+	daemon, err := keynoted.Start(policy, "") // keynoted.Connect("127.0.0.1:2704") for one that serves
 	if err != nil {
 		log.Fatal(err)
 	}
