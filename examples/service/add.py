@@ -1,9 +1,10 @@
 #!/usr/bin/env python3
 """Adds credentials to a daemon that has started: add.py HOST PORT KEYS FILE..
 
-A stop forgets what was added, so this belongs behind each start where the log isn't restored (docs/RESTARTS.md). Each FILE holds
-one credential, and they are added in their order. The administrators' secret is that of the key file KEYS. A line is printed for
-each file: the daemon's reply. The status is 1 where the daemon refuses one of them, or isn't there within ten seconds.
+A stop forgets what was added, so this belongs behind each start where the log isn't restored (docs/RESTARTS.md). Each
+FILE holds one credential, and they are added in their order. The administrators' secret is that of the key file KEYS. A
+line is printed for each file: the daemon's reply. The status is 1 where the daemon refuses one of them, or isn't there
+within ten seconds.
 """
 import socket
 import sys
