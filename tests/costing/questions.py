@@ -9,8 +9,8 @@ from costing.texts import LIVE, LIVE_BYTES, PRIVATE, PRIVATE_BYTES, assertion, n
 
 # the most nodes that CRITICAL takes
 NODES = 16384
-# the last credential, which may go without a change of any answer
-SPARE = 'Authorizer: "spare"\n'
+# the last credential, which may go without a change of any answer, though it is the policy's
+SPARE = 'Authorizer: "POLICY"\n'
 # what is asked over: shared texts, private ones, what the session is told, and the values
 World = collections.namedtuple("World", "shared private told values", defaults=((), (), "no,yes"))
 WANTED = {"QUERY": b"VALUE ", "WATCH": b"NEWS ", "NEWS": b"NEWS ", "CRITICAL": b"CRITICAL "}
@@ -68,6 +68,15 @@ def licensees(size, sign, reached, each):
             names.append(f'{sign}"{name_of(number % count if reached else number)}"')
             number += 1
         made.append(text + "".join(names) + back + "\n")
+    return World(made, told=[auth("r")])
+
+
+def constants(size, need, each):
+    """Credentials of many licensees that take two bytes each: a local constant, which stands for the requester."""
+    made = []
+    for i in range(max(1, (size - 64) // each)):
+        text = f'Local-Constants: A="r"\nAuthorizer: "{name_of(i)}"\nLicensees: {need}-of('
+        made.append(text + "A," * ((each - len(text) - 4) // 2) + "A)\n")
     return World(made, told=[auth("r")])
 
 
@@ -156,6 +165,7 @@ COSTS = [
     ("slow conditions, private", "bytes", PRIVATE_BYTES, slow_private, OWN),
     ("licensees", "bytes", LIVE_BYTES, licensees,
      {"sign": ["||", "&&", ","], "reached": [False, True], "each": [16384, 2048, 4096]}),
+    ("local constants", "bytes", LIVE_BYTES, constants, {"need": [1, 2, 1000], "each": [4096, 2048, 16384]}),
     ("a chain", "credentials", LIVE - 1, chain, {"name": ["long", "short"]}),
     ("all levels", "credentials", LIVE - 1, levels, {"links": [60, 16, 4, 1]}),
 ]
