@@ -1,1 +1,2 @@
 pub mod ClauseValues
+mod Affected

@@ -12,3 +12,4 @@ pub mod kinds;
 pub mod programs;
 pub mod replies;
 pub mod requests;
+pub mod standing;
