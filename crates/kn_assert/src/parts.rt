@@ -3,7 +3,7 @@ ghost use Rattle.std.specs.Prelude.{◌≡◌, ◌+◌, ◌≤◌, ◌<◌, true
 ghost use Rattle.std.specs.Prelude.{OnOk, OnErr, IfErr, MatchResult};
 ghost use Rattle.std.specs.Option.{option_copied, option_map};
 ghost use Rattle.kn_lex.specs.TokenViews.{token_view};
-ghost use Rattle.kn_fields.specs.Fields.{tokens_of_part};
+ghost use Rattle.kn_fields.specs.Fields.{tokens_in_span};
 ghost use Rattle.kn_fields.specs.Scanning.{goes_deep};
 ghost use Rattle.kn_formula.specs.Trees.{principal_text};
 ghost use Rattle.kn_formula.specs.declared.written.Principal.TheVariants.{Name as Unquoted};
@@ -12,20 +12,22 @@ ghost use Rattle.kn_assert.specs.Reading.{authorizer_in, conditions_in, licensee
 
 use kn_base::{List, Octets};
 use kn_env::{Constant, constant_value};
-use kn_fields::{AUTHORIZER, CONDITIONS, Fields, LICENSEES, Part, ReadFault, SIGNATURE, goes_deep};
+use kn_fields::{
+    AUTHORIZER, CONDITIONS, FieldSpan, Fields, LICENSEES, ReadFault, SIGNATURE, goes_deep,
+};
 use kn_formula::FormulaFault;
 use kn_lex::{Sort, Token, Tokens, literal};
-use kn_principal::{PrincipalFault, normal};
+use kn_principal::{POLICY, PrincipalFault, normal};
 use kn_program::ProgramFault;
 use kn_trees::{Formula, Program};
 use std::alloc::Global;
 
 /// Refuses a field that goes too deep.
-fn check_depth(tokens: &Tokens<'_>, part: Part, field: u8) -> Result<(), ReadFault>
+fn check_depth(tokens: &Tokens<'_>, part: FieldSpan, field: u8) -> Result<(), ReadFault>
     requires before { part.label < part.end }
     requires within { part.end ≤ length tokens.now }
-    ensures ok { OnOk result (goes_deep 0 0 (tokens_of_part part tokens.now) ≡ false) }
-    ensures deep { OnErr result (goes_deep 0 0 (tokens_of_part part tokens.now) ≡ true) }
+    ensures ok { OnOk result (goes_deep 0 0 (tokens_in_span part tokens.now) ≡ false) }
+    ensures deep { OnErr result (goes_deep 0 0 (tokens_in_span part tokens.now) ≡ true) }
     ensures err { IfErr result (λ fault. fault ≡ ReadFault.TooDeep field) }
 {
     if goes_deep(tokens, part.label + 1, part.end) {
@@ -36,10 +38,10 @@ fn check_depth(tokens: &Tokens<'_>, part: Part, field: u8) -> Result<(), ReadFau
 }
 
 /// The one token of a field, where it has one alone.
-fn only<'a, 'b>(tokens: &'b Tokens<'a>, part: Part) -> Option<&'b Token<'a>>
+fn only<'a, 'b>(tokens: &'b Tokens<'a>, part: FieldSpan) -> Option<&'b Token<'a>>
     requires before { part.label < part.end }
     requires within { part.end ≤ length tokens.now }
-    ensures { option_map token_view (option_copied result) ≡ only_of (tokens_of_part part tokens.now) }
+    ensures { option_map token_view (option_copied result) ≡ only_of (tokens_in_span part tokens.now) }
 {
     if part.end - part.label != 2 {
         return None;
@@ -68,7 +70,7 @@ fn principal_named(
 ) -> Result<Octets, ReadFault>
     ensures { Gives result (ok_or (normal_in (principal_text constants.now (Unquoted name.now))) (ReadFault.Name 1)) }
 {
-    if name == b"POLICY".as_slice() {
+    if name == POLICY {
         return principal_in(alloc, name);
     }
     match constant_value(constants.as_slice(), name) {
@@ -101,11 +103,11 @@ fn authorizer_by(
 pub(crate) fn authorizer(
     alloc: Global,
     fields: &Fields<'_>,
-    part: Part,
+    part: FieldSpan,
 ) -> Result<Octets, ReadFault>
     requires before { part.label < part.end }
     requires within { part.end ≤ length fields.now.tokens }
-    ensures { Gives result (authorizer_in fields.now.constants (tokens_of_part part fields.now.tokens)) }
+    ensures { Gives result (authorizer_in fields.now.constants (tokens_in_span part fields.now.tokens)) }
 {
     check_depth(fields.tokens.tokens(), part, AUTHORIZER)?;
     match only(fields.tokens.tokens(), part) {
@@ -118,11 +120,11 @@ pub(crate) fn authorizer(
 pub(crate) fn conditions(
     alloc: Global,
     fields: &Fields<'_>,
-    part: Part,
+    part: FieldSpan,
 ) -> Result<Option<Program>, ReadFault>
     requires before { part.label < part.end }
     requires within { part.end ≤ length fields.now.tokens }
-    ensures { Gives result (conditions_in (tokens_of_part part fields.now.tokens)) }
+    ensures { Gives result (conditions_in (tokens_in_span part fields.now.tokens)) }
 {
     kn_fields::laws::depth_is_computed();
     check_depth(fields.tokens.tokens(), part, CONDITIONS)?;
@@ -138,11 +140,11 @@ pub(crate) fn conditions(
 pub(crate) fn licensees(
     alloc: Global,
     fields: &Fields<'_>,
-    part: Part,
+    part: FieldSpan,
 ) -> Result<Option<Formula>, ReadFault>
     requires before { part.label < part.end }
     requires within { part.end ≤ length fields.now.tokens }
-    ensures { Gives result (licensees_in fields.now.constants (tokens_of_part part fields.now.tokens)) }
+    ensures { Gives result (licensees_in fields.now.constants (tokens_in_span part fields.now.tokens)) }
 {
     kn_fields::laws::depth_is_computed();
     check_depth(fields.tokens.tokens(), part, LICENSEES)?;
@@ -170,11 +172,11 @@ fn signature_by(alloc: Global, token: &Token<'_>) -> Result<Option<Octets>, Read
 pub(crate) fn signature(
     alloc: Global,
     fields: &Fields<'_>,
-    part: Part,
+    part: FieldSpan,
 ) -> Result<Option<Octets>, ReadFault>
     requires before { part.label < part.end }
     requires within { part.end ≤ length fields.now.tokens }
-    ensures { Gives result (signature_in (tokens_of_part part fields.now.tokens)) }
+    ensures { Gives result (signature_in (tokens_in_span part fields.now.tokens)) }
 {
     check_depth(fields.tokens.tokens(), part, SIGNATURE)?;
     match only(fields.tokens.tokens(), part) {

@@ -1,6 +1,6 @@
 //! What the fields state, read in their order in the text.
 ghost use Rattle.std.specs.Prelude.{◌+◌, ◌≤◌, ◌<◌, length};
-ghost use Rattle.kn_fields.specs.Fields.{tokens_of_part, fields_of};
+ghost use Rattle.kn_fields.specs.Fields.{tokens_in_span, fields_of};
 ghost use Rattle.kn_assert.specs.Parts.{Gives};
 ghost use Rattle.kn_assert.specs.Reading.{nothing, with_field, stated_by};
 
@@ -29,7 +29,7 @@ fn with_field(
     requires before { heading.part.label < heading.part.end }
     requires within { heading.part.end ≤ length fields.now.tokens }
     ensures { Gives result (with_field fields.now.constants stated heading.number
-        (tokens_of_part heading.part fields.now.tokens)) }
+        (tokens_in_span heading.part fields.now.tokens)) }
 {
     let mut stated = stated;
     let part = heading.part;

@@ -14,9 +14,9 @@ use Rattle.std.proofs.lemmas.List.Folds.{list_all-append, list_any-append}
 use Rattle.std.proofs.lemmas.List.Sums.{prefix_len-le-length}
 use Rattle.kn_lex.specs.Cutting.{TokenView}
 use Rattle.kn_fields.specs.Fields.{is_label, field_of, is_this, is_label_of, Field, fields_of, field_with, between}
-use Rattle.kn_fields.specs.Fields.{IsPart, IsHeading, AreHeadings}
+use Rattle.kn_fields.specs.Fields.{IsFieldSpan, IsHeading, AreHeadings}
 use Rattle.kn_fields.specs.Faults.{is_bad_field}
-use Rattle.kn_fields.specs.Scanning.{is_stray, is_wrong, first_place, AreNumbered, PartIs}
+use Rattle.kn_fields.specs.Scanning.{is_stray, is_wrong, first_place, AreNumbered, IsSpanOf}
 use Rattle.kn_fields.specs.declared.heading.Heading.{Heading}
 use Rattle.kn_fields.specs.declared.label_faults.Wrong.{Wrong}
 use Rattle.kn_fields.specs.declared.label_faults.Wrong.TheVariants.{Second, LateVersion, BehindSignature}
@@ -262,7 +262,7 @@ lacks_none (t ∷ ts) (h ∷ hs) all none first numbered =
 abbrev PartOf : ℕ → List TokenView → List Field → Option Heading → Type 0
 PartOf n tokens fields None = find (λ field. is_label_of n field.label) fields ≡ None
 PartOf n tokens fields (Some heading) = (field : Field)
-    × (find (λ field. is_label_of n field.label) fields ≡ Some field) × IsPart tokens heading.part field
+    × (find (λ field. is_label_of n field.label) fields ≡ Some field) × IsFieldSpan tokens heading.part field
 
 part_told : (n : ℕ) (tokens : List TokenView) (fields : List Field) (hs : List Heading) → AreHeadings tokens fields hs
     → PartOf n tokens fields (find (λ heading. is_this n heading.number) hs)
@@ -280,13 +280,13 @@ part_told n tokens (f ∷ fs) (h ∷ hs) all = elim (cases_Bool (is_this n h.num
     by passed (Some found) own = (own.0, rw passed own.1, own.2)
 
 pub part_none : (n : ℕ) (tokens : List TokenView) (hs : List Heading) → AreHeadings tokens (fields_of tokens) hs
-    → find (λ heading. is_this n heading.number) hs ≡ None → PartIs n tokens None
+    → find (λ heading. is_this n heading.number) hs ≡ None → IsSpanOf n tokens None
 unfolding field_with
 part_none n tokens hs all e = rw e at (part_told n tokens (fields_of tokens) hs all)
 
 pub part_some : (n : ℕ) (tokens : List TokenView) (hs : List Heading) (h : Heading)
     → AreHeadings tokens (fields_of tokens) hs → find (λ heading. is_this n heading.number) hs ≡ Some h
-    → PartIs n tokens (Some h.part)
+    → IsSpanOf n tokens (Some h.part)
 unfolding field_with
 part_some n tokens hs h all e = rw e at (part_told n tokens (fields_of tokens) hs all)
 
@@ -322,7 +322,7 @@ headings_told tokens (t ∷ ts) at here size = elim (cases_Bool (is_label t)) [
     there : (slice_get tokens at ≡ Some t) × (drop (at + 1) tokens ≡ ts)
     there = dropped tokens at t ts here
 
-    part : IsPart tokens (record { label = at; end = at + 1 + prefix_len goes_on ts })
+    part : IsFieldSpan tokens (record { label = at; end = at + 1 + prefix_len goes_on ts })
         (record { label = t; tokens = take_while goes_on ts })
     part = record {
       label = there.0;

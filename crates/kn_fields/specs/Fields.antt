@@ -6,7 +6,7 @@ use Rattle.std.specs.Str.{str_eq_ignore_ascii_case}
 use Rattle.kn_lex.specs.Cutting.{TokenView}
 use Rattle.kn_lex.specs.TokenViews.{is_label_sort}
 use Rattle.kn_fields.specs.declared.heading.Heading.{Heading}
-use Rattle.kn_fields.specs.declared.part.Part.{Part}
+use Rattle.kn_fields.specs.declared.field_span.FieldSpan.{FieldSpan}
 
 -- the number of the field that a label names, in any case of letters
 abbrev pub field_number : List ℕ → Option ℕ
@@ -66,11 +66,11 @@ unfoldable pub between : ℕ → ℕ → List TokenView → List TokenView
 between from to tokens = take (to - from) (drop from tokens)
 
 -- the tokens of the field that stands here, behind its label
-abbrev pub tokens_of_part : Part → List TokenView → List TokenView
-tokens_of_part part tokens = between (part.label + 1) part.end tokens
+abbrev pub tokens_in_span : FieldSpan → List TokenView → List TokenView
+tokens_in_span part tokens = between (part.label + 1) part.end tokens
 
 -- the label stands at one place of the list, and the field's tokens from the next place up to another
-pub record IsPart (tokens : List TokenView) (part : Part) (field : Field) : Type 0 where
+pub record IsFieldSpan (tokens : List TokenView) (part : FieldSpan) (field : Field) : Type 0 where
   pub label : slice_get tokens part.label ≡ Some field.label
   pub before : part.label < part.end
   pub within : part.end ≤ length tokens
@@ -78,7 +78,7 @@ pub record IsPart (tokens : List TokenView) (part : Part) (field : Field) : Type
 
 -- it tells where a field stands, and its number
 pub record IsHeading (tokens : List TokenView) (field : Field) (heading : Heading) : Type 0 where
-  pub part : IsPart tokens heading.part field
+  pub part : IsFieldSpan tokens heading.part field
   pub number : heading.number ≡ field_of field.label
 
 -- each of these tells of the field at its place in the list

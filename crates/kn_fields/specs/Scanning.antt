@@ -5,14 +5,14 @@ use Rattle.std.specs.List.{list_all}
 use Rattle.std.specs.Option.{option_or}
 use Rattle.kn_base.specs.declared.limits.TheConstants.{OPEN_BRACKETS, PREFIX_SIGNS}
 use Rattle.kn_lex.specs.Cutting.{TokenView}
-use Rattle.kn_fields.specs.Fields.{is_label, field_of, Field, field_with, IsPart}
+use Rattle.kn_fields.specs.Fields.{is_label, field_of, Field, field_with, IsFieldSpan}
 use Rattle.kn_fields.specs.Expectations.{expecting_behind, departs}
 use Rattle.kn_fields.specs.Depth.{depth_behind, run_behind}
 use Rattle.kn_fields.specs.Faults.{is_bad_field, is_second, is_late_version, is_behind_signature, is_version}
 use Rattle.kn_fields.specs.declared.constants.Expecting.{Expecting}
 use Rattle.kn_fields.specs.declared.constants.Expecting.TheVariants.{Setting}
 use Rattle.kn_fields.specs.declared.heading.Heading.{Heading}
-use Rattle.kn_fields.specs.declared.part.Part.{Part}
+use Rattle.kn_fields.specs.declared.field_span.FieldSpan.{FieldSpan}
 use Rattle.kn_fields.specs.declared.label_faults.Wrong.{Wrong}
 use Rattle.kn_fields.specs.declared.label_faults.Wrong.TheVariants.{Second, LateVersion, BehindSignature}
 use Rattle.kn_fields.specs.declared.fault.ReadFault.{ReadFault}
@@ -20,9 +20,10 @@ use Rattle.kn_fields.specs.declared.fault.ReadFault.TheVariants.{BadField, Field
 use Rattle.kn_fields.specs.declared.fault.ReadFault.TheVariants.{Version, Constant}
 
 -- it tells where the first field of this number stands, or that there is none
-abbrev pub PartIs : ℕ → List TokenView → Option Part → Type 0
-PartIs number tokens None = field_with number tokens ≡ None
-PartIs number tokens (Some part) = (field : Field) × (field_with number tokens ≡ Some field) × IsPart tokens part field
+abbrev pub IsSpanOf : ℕ → List TokenView → Option FieldSpan → Type 0
+IsSpanOf number tokens None = field_with number tokens ≡ None
+IsSpanOf number tokens (Some part) = (field : Field) × (field_with number tokens ≡ Some field)
+    × IsFieldSpan tokens part field
 
 -- a token that begins a line and is no label
 abbrev pub is_stray : TokenView → Bool

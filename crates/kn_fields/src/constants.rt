@@ -9,9 +9,9 @@ ghost use Rattle.kn_fields.specs.Expectations.{AreNames, next_expecting, fits};
 ghost use Rattle.kn_fields.specs.Faults.{constants_in};
 ghost use Rattle.kn_fields.specs.Scanning.{end_place, departure, constant_place};
 
+use crate::field_span::label_start;
 use crate::heading::LabelledTokens;
 use crate::label::LOCAL_CONSTANTS;
-use crate::part::label_start;
 use kn_base::{List, NoMemory, Octets};
 use kn_env::Constant;
 use kn_lex::{Sort, Token, Tokens, literal};

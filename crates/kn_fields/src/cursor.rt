@@ -6,8 +6,8 @@ ghost use Rattle.kn_fields.specs.Fields.{between};
 ghost use Rattle.kn_fields.specs.Words.{words_of, word_of, first_sign, rest_of, mark_if};
 ghost use Rattle.kn_fields.specs.Reading.{Reads, marked, named};
 
+use crate::field_span::FieldSpan;
 use crate::grammar_fault::GrammarFault;
-use crate::part::Part;
 use kn_lex::{Sort, Token, Tokens};
 use std::marker::Model;
 
@@ -37,7 +37,7 @@ impl<'t, 'a> Model for Cursor<'t, 'a> {
 impl<'t, 'a> Cursor<'t, 'a> {
     /// All the tokens of the field that stands there.
     #[inline(always)]
-    pub fn of_field(tokens: &'t Tokens<'a>, part: Part) -> Cursor<'t, 'a>
+    pub fn of_field(tokens: &'t Tokens<'a>, part: FieldSpan) -> Cursor<'t, 'a>
         requires before { part.label < part.end }
         requires within { part.end ≤ length tokens.now }
         ensures { result ≡ words_of (between (part.label + 1) part.end tokens.now) }

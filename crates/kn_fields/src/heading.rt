@@ -3,10 +3,10 @@ ghost use Rattle.std.specs.Prelude.{◌≡◌, ◌≤◌, ◌+◌, not, [], ◌�
 ghost use Rattle.std.specs.List.{prefix_len, list_any};
 ghost use Rattle.std.specs.Option.{option_copied, option_and_then};
 ghost use Rattle.kn_fields.specs.Fields.{is_this, is_label, field_of, fields_of, between, AreHeadings};
-ghost use Rattle.kn_fields.specs.Scanning.{is_stray, PartIs};
+ghost use Rattle.kn_fields.specs.Scanning.{is_stray, IsSpanOf};
 
+use crate::field_span::FieldSpan;
 use crate::label::{field_of, is_label};
-use crate::part::Part;
 use kn_base::NoMemory;
 use kn_lex::Tokens;
 use smallvec::SmallVec;
@@ -17,7 +17,7 @@ use std::marker::Model;
 #[derive(Clone, Copy, Default)]
 pub struct Heading {
     /// Where the field stands.
-    pub part: Part,
+    pub part: FieldSpan,
     /// The number of the field: 1 is Authorizer, 2 Comment, 3 Conditions, 4 KeyNote-Version, 5 Licensees,
     /// 6 Local-Constants and 7 Signature. None where the label is none of a field.
     pub number: Option<u8>,
@@ -76,7 +76,7 @@ impl<'a> LabelledTokens<'a> {
         while label < tokens.len() {
             let behind = stretch_from(&tokens, label + 1);
             let end = behind.end;
-            let part = Part { label, end };
+            let part = FieldSpan { label, end };
             let number = number_at(&tokens, label);
             add_heading(&mut headings, Heading { part, number })?;
             has_stray |= behind.has_stray;
@@ -111,8 +111,8 @@ impl<'a> LabelledTokens<'a> {
     }
 
     /// Where the first field of this number stands, or None where there is none.
-    pub(crate) fn part(&self, number: u8) -> Option<Part>
-        ensures { PartIs number self.now result }
+    pub(crate) fn part(&self, number: u8) -> Option<FieldSpan>
+        ensures { IsSpanOf number self.now result }
     {
         match heading_of(self.headings(), number) {
             Some(heading) => Some(heading.part),

@@ -7,9 +7,9 @@ ghost use Rattle.kn_fields.specs.Fields.{is_this, between};
 ghost use Rattle.kn_fields.specs.Faults.{is_bad_field};
 ghost use Rattle.kn_fields.specs.Scanning.{is_wrong, first_place, order_place, AreNumbered};
 
+use crate::field_span::label_start;
 use crate::heading::{Heading, LabelledTokens};
 use crate::label::{SIGNATURE, VERSION, field_of};
-use crate::part::label_start;
 use kn_lex::{Token, Tokens};
 
 /// How a label can be wrong by those before it.

@@ -4,9 +4,9 @@ ghost use Rattle.kn_fields.specs.Fields.{between};
 ghost use Rattle.kn_fields.specs.Faults.{is_two, is_two_by, is_version};
 ghost use Rattle.kn_fields.specs.Scanning.{version_place};
 
+use crate::field_span::{FieldSpan, label_start};
 use crate::heading::LabelledTokens;
 use crate::label::VERSION;
-use crate::part::{Part, label_start};
 use kn_base::NoMemory;
 use kn_lex::{Sort, Token, Tokens, literal};
 use std::alloc::Global;
@@ -33,7 +33,7 @@ fn is_two_by(alloc: Global, token: &Token<'_>) -> Result<bool, NoMemory>
 
 /// Whether the tokens of a field are the version 2 alone.
 #[tactic(auto, using(crate::proofs::Parts::version_steps))]
-fn is_version(alloc: Global, tokens: &Tokens<'_>, part: Part) -> Result<bool, NoMemory>
+fn is_version(alloc: Global, tokens: &Tokens<'_>, part: FieldSpan) -> Result<bool, NoMemory>
     requires before { part.label < part.end }
     requires within { part.end ≤ length tokens.now }
     ensures { IfOk result (λ right. right ≡ is_version (between (part.label + 1) part.end tokens.now)) }

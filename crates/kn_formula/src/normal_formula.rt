@@ -8,7 +8,7 @@ use crate::fault::FormulaFault;
 use crate::written::{Principal, Rule, Written};
 use kn_base::{List, Octets};
 use kn_env::{Constant, constant_value};
-use kn_principal::{PrincipalFault, normal};
+use kn_principal::{POLICY, PrincipalFault, normal};
 use kn_trees::Formula;
 use std::alloc::Global;
 
@@ -20,8 +20,8 @@ fn principal_text<'a>(constants: &'a [Constant], principal: &'a Principal) -> Op
     match principal {
         Principal::Literal(value) => Some(value.as_slice()),
         Principal::Name(name) => {
-            if name.as_slice() == b"POLICY".as_slice() {
-                Some(b"POLICY".as_slice())
+            if name.as_slice() == POLICY {
+                Some(POLICY)
             } else {
                 constant_value(constants, name.as_slice())
             }

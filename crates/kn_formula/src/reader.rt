@@ -1,7 +1,7 @@
 //! Reading a Licensees field.
 ghost use Rattle.std.specs.Prelude.{◌≡◌, ◌⊎◌, ◌+◌, ◌≤◌, ◌<◌, IfOk, IfErr, IfSome, length, false, All};
 ghost use Rattle.kn_trees.specs.Formulas.{IsReadable};
-ghost use Rattle.kn_fields.specs.Fields.{tokens_of_part};
+ghost use Rattle.kn_fields.specs.Fields.{tokens_in_span};
 ghost use Rattle.kn_fields.specs.Depth.{IsTooDeep};
 ghost use Rattle.kn_formula.specs.Licensing.{licensees_of, Gives, AreLicensees, Shows};
 
@@ -11,7 +11,7 @@ use crate::normal_formula::formula;
 use crate::threshold::has_bad_threshold;
 use kn_base::List;
 use kn_env::Constant;
-use kn_fields::{Cursor, Part};
+use kn_fields::{Cursor, FieldSpan};
 use kn_lex::Tokens;
 use kn_trees::Formula;
 use std::alloc::Global;
@@ -22,16 +22,16 @@ use std::alloc::Global;
 pub fn licensees(
     alloc: Global,
     tokens: &Tokens<'_>,
-    part: Part,
+    part: FieldSpan,
     constants: &List<Constant>,
 ) -> Result<Option<Formula>, FormulaFault>
     requires before { part.label < part.end }
     requires within { part.end ≤ length tokens.now }
-    requires shallow { IsTooDeep (tokens_of_part part tokens.now) → ⊥ }
-    ensures given { Gives result (licensees_of constants.now (tokens_of_part part tokens.now)) }
-    ensures stated { IfOk result (λ licensees. AreLicensees constants.now (tokens_of_part part tokens.now) licensees) }
+    requires shallow { IsTooDeep (tokens_in_span part tokens.now) → ⊥ }
+    ensures given { Gives result (licensees_of constants.now (tokens_in_span part tokens.now)) }
+    ensures stated { IfOk result (λ licensees. AreLicensees constants.now (tokens_in_span part tokens.now) licensees) }
     ensures shown { IfErr result (λ fault. (fault ≡ FormulaFault.NoMemory)
-        ⊎ Shows constants.now (tokens_of_part part tokens.now) fault) }
+        ⊎ Shows constants.now (tokens_in_span part tokens.now) fault) }
     ensures readable { IfOk result (λ licensees. IfSome licensees (λ formula. IsReadable (length tokens.now) formula)) }
 {
     read_licensees(alloc, tokens, part, constants)
@@ -41,12 +41,12 @@ pub fn licensees(
 fn read_licensees(
     alloc: Global,
     tokens: &Tokens<'_>,
-    part: Part,
+    part: FieldSpan,
     constants: &List<Constant>,
 ) -> Result<Option<Formula>, FormulaFault>
     requires before { part.label < part.end }
     requires within { part.end ≤ length tokens.now }
-    ensures { Gives result (licensees_of constants.now (tokens_of_part part tokens.now)) }
+    ensures { Gives result (licensees_of constants.now (tokens_in_span part tokens.now)) }
 {
     let mut cursor = Cursor::of_field(tokens, part);
     if cursor.len() == 0 {

@@ -10,6 +10,7 @@ ghost use Rattle.kn_laws.specs.Tested as T;
 
 use kn_base::{List, NoMemory, Octets};
 use kn_meaning::plain::{Level, Stated, level_of, worth};
+use kn_principal::POLICY;
 use kn_proof::{Id, NamedRow};
 use std::alloc::Global;
 
@@ -151,7 +152,7 @@ fn ends(
     if !is_closed(alloc, top, table, statements)? {
         return Ok(false);
     }
-    Ok(level_of(table, b"POLICY") == level)
+    Ok(level_of(table, POLICY) == level)
 }
 
 /// Whether each row may follow those before it, and all of them end a proof.

@@ -5,10 +5,11 @@ use Rattle.std.specs.Prelude.{All, nat_lt}
 use Rattle.std.proofs.lemmas.List.{length-drop, length-take-le}
 use Rattle.std.proofs.lemmas.List.Elements.{All-nil, All-cons}
 use Rattle.std.proofs.lemmas.Bool.Decides.{nat_tests}
+use Rattle.kn_base.specs.declared.limits.TheConstants.{WHOLE_NUMBER}
 use Rattle.kn_base.specs.Decimal.{digits_value}
 use Rattle.kn_lex.specs.Spelling.{Spells}
 use Rattle.kn_lex.specs.Cutting.{IsLexeme, is_token, Cuts, TokenView, start, place_after, token_of}
-use Rattle.kn_lex.specs.Faults.{Shows, IsFaultless, number_max, begins_fraction}
+use Rattle.kn_lex.specs.Faults.{Shows, IsFaultless, begins_fraction}
 use Rattle.kn_lex.specs.Scanning.{fault_at}
 use Rattle.kn_lex.specs.TokenFacts.{IsSpelled, IsTokenOf}
 use Rattle.kn_lex.specs.declared.token.Sort.{Sort}
@@ -37,23 +38,23 @@ clean_at text place at tokens faultless h = by (fault_at place at (drop at text)
 -- a number that shows no fault is not too large
 number_bound : (place : Place) (at : ℕ) (left : List ℕ) (n : ℕ) → IsLexeme place.context left (Token NumberSort) n
     → fault_at place at left ≡ None
-    → digits_value (take n left) ≤ number_max
+    → digits_value (take n left) ≤ WHOLE_NUMBER
 number_bound place at left n cut clean =
-    by (nat_lt number_max (digits_value (take n left))) refl (begins_fraction (drop n left)) refl
+    by (nat_lt WHOLE_NUMBER (digits_value (take n left))) refl (begins_fraction (drop n left)) refl
   where
     none : (fault : LexFault) → Shows place at left fault → ⊥
     none fault shown = subst (Least fault) clean (shown_least place at left fault shown)
 
-    by : (b : Bool) → nat_lt number_max (digits_value (take n left)) ≡ b → (f : Bool)
+    by : (b : Bool) → nat_lt WHOLE_NUMBER (digits_value (take n left)) ≡ b → (f : Bool)
         → begins_fraction (drop n left) ≡ f
-        → digits_value (take n left) ≤ number_max
+        → digits_value (take n left) ≤ WHOLE_NUMBER
     by false b f e = grind (arith, nat_tests)
     by true b true e = absurd (none (Float at) (refl, inr (record { n = n; cut = cut; shown = e })))
     by true b false e =
         absurd (none (Number at) (refl, record { n = n; cut = cut; shown = (e, grind (arith, nat_tests)) }))
 
 lexeme_spelled : (context : Context) (sort : Sort) (bytes : List ℕ) → Spells context (Token sort) bytes
-    → (sort ≡ NumberSort → digits_value bytes ≤ number_max)
+    → (sort ≡ NumberSort → digits_value bytes ≤ WHOLE_NUMBER)
     → IsSpelled sort bytes
 lexeme_spelled context sort bytes s b = grind arith
 

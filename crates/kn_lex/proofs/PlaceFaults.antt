@@ -6,12 +6,13 @@ use Rattle.std.specs.List.{list_all}
 use Rattle.std.proofs.lemmas.List.{length-take-le}
 use Rattle.std.proofs.lemmas.Bool.{false≢true}
 use Rattle.std.proofs.lemmas.Bool.Decides.{nat_tests, Decides-ltb}
+use Rattle.kn_base.specs.declared.limits.TheConstants.{WHOLE_NUMBER}
 use Rattle.kn_base.specs.Decimal.{is_digit, digits_value}
 use Rattle.kn_lex.specs.Bytes.{is_white, begins_with}
 use Rattle.kn_lex.specs.Spelling.{is_run, is_blank}
 use Rattle.kn_lex.specs.Cutting.{IsLexeme, BeginsNone, is_line_start}
 use Rattle.kn_lex.specs.Faults.{begins_foreign, begins_quote, begins_ampersand, begins_match, begins_other}
-use Rattle.kn_lex.specs.Faults.{begins_fraction, number_max, goes_on, HoldsZero, HasNumber, Shows, fault_place}
+use Rattle.kn_lex.specs.Faults.{begins_fraction, goes_on, HoldsZero, HasNumber, Shows, fault_place}
 use Rattle.kn_lex.specs.Scanning.{white_len, zero_place, zero_fault, number_fault, stuck_fault, lexeme_fault, fault_by}
 use Rattle.kn_lex.specs.Scanning.{is_bad_blank, fault_at, lexeme_at, plain_lexeme, more_len}
 use Rattle.kn_lex.specs.declared.token.Sort.{Sort}
@@ -181,11 +182,12 @@ fraction_least place at left h = found_least place at left (Float at) (token_at 
     ∙ rw h.shown refl)
 
 large_least : (place : Place) (at : ℕ) (left : List ℕ)
-    → HasNumber place.context left (λ digits rest. (begins_fraction rest ≡ false) × (number_max < digits_value digits))
+    → HasNumber place.context left (λ digits rest. (begins_fraction rest ≡ false)
+    × (WHOLE_NUMBER < digits_value digits))
     → Least (Number at) (fault_at place at left)
 large_least place at left h =
-    let large : nat_lt number_max (digits_value (take h.n left)) ≡ true =
-    (Decides-ltb number_max (digits_value (take h.n left))).1 h.shown.1 in
+    let large : nat_lt WHOLE_NUMBER (digits_value (take h.n left)) ≡ true =
+    (Decides-ltb WHOLE_NUMBER (digits_value (take h.n left))).1 h.shown.1 in
     found_least place at left (Number at) (token_at place at left NumberSort h.n h.cut ∙ rw (h.shown.0, large) refl)
 
 -- what is shown where no lexeme begins

@@ -9,12 +9,13 @@ use Rattle.std.proofs.lemmas.Bool.{lt-ltb}
 use Rattle.std.proofs.lemmas.Bool.Decides.{nat_tests}
 use Rattle.std.proofs.lemmas.List.{at_drop_more, at_drop_all, drop-drop}
 use Rattle.std.specs.List.{prefix_len}
+use Rattle.kn_base.specs.declared.limits.TheConstants.{WHOLE_NUMBER}
 use Rattle.kn_base.specs.Decimal.{digits_value}
 use Rattle.kn_base.proofs.Digits.{digit_read_at}
 use Rattle.kn_lex.specs.Bytes.{is_gap, is_white, is_quoted, continues_label, begins_with}
 use Rattle.kn_lex.specs.Spelling.{is_blank, is_continuation}
 use Rattle.kn_lex.specs.Between.{is_line_end}
-use Rattle.kn_lex.specs.Faults.{goes_on, number_max, begins_match}
+use Rattle.kn_lex.specs.Faults.{goes_on, begins_match}
 use Rattle.kn_lex.specs.Cutting.{ends_line}
 use Rattle.kn_lex.specs.Scanning.{white_len, line_len, colon_len, body_len, quote_len, more_len, quote_step, len_after}
 use Rattle.kn_lex.specs.Scanning.{stuck_fault}
@@ -178,19 +179,6 @@ pub stuck_fault_at : (at : ℕ) (rest : List ℕ) → 0 < length rest
     else Some (BadToken at))
 unfolding stuck_fault
 stuck_fault_at at rest h = grind arith
-
--- the first digit of what is left is added to what is read, and never makes it less
-pub too_large : (digits : List ℕ) (i value : ℕ) → i < length digits
-    → value * 10 ^ length (drop i digits) + digits_value (drop i digits) ≡ digits_value digits
-    → number_max < value * 10 + (get_or digits i 0 - 48) → nat_lt number_max (digits_value digits) ≡ true
-too_large digits i value within e over =
-    let read = digit_read_at digits i value (digits_value digits) within e in
-    let k = length (drop (i + 1) digits) in
-    let some : 10 ^ 0 ≤ 10 ^ k = pow-le-pow_right {n = 10} (lit< tt) {i = 0} (omega arith) in
-    let le : value * 10 + (get_or digits i 0 - 48) ≤ (value * 10 + (get_or digits i 0 - 48)) * 10 ^ k =
-    le-mul_of_pos_right _ (omega arith) in
-    let above : number_max < digits_value digits = omega (arith, read, le, over) in
-    lt-ltb _ _ above
 
 -- what a walk over a literal, over a blank line and over a body goes by
 pub ruleset quote_steps = (quote_len_at, quote_len_end, more_len_twice, more_len_none)

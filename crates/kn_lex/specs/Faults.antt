@@ -1,6 +1,7 @@
 -- The lexical faults of a text, each with its place. The faults and their numbers are keynoted's own.
 use Rattle.std.specs.Prelude.{◌≡◌, ℕ, ◌+◌, ◌<◌, ◌⊎◌, Bool, true, false, not, ◌&&◌, ◌||◌, ◌==◌, nat_le, List, [], ◌∷◌}
 use Rattle.std.specs.Prelude.{take, drop, slice_get, Option, Some, None}
+use Rattle.kn_base.specs.declared.limits.TheConstants.{WHOLE_NUMBER}
 use Rattle.kn_base.specs.Decimal.{is_digit, digits_value}
 use Rattle.kn_lex.specs.Bytes.{is_white}
 use Rattle.kn_lex.specs.Spelling.{is_blank}
@@ -50,10 +51,6 @@ begins_fraction [] = false
 begins_fraction (byte ∷ []) = false
 begins_fraction (byte ∷ next ∷ bytes) = byte == 46 && is_digit next
 
--- the greatest number
-abbrev pub number_max : ℕ
-number_max = 2147483647
-
 -- whether a byte stands there that is neither white space nor in a comment; `commented` tells that the
 -- first one is in a comment
 abbrev pub goes_on : Bool → List ℕ → Bool
@@ -88,7 +85,8 @@ Shows place at left (Float p) =
 Shows place at left (Regex p) = (p ≡ at) × BeginsNone place.context left × (begins_match left ≡ true)
 Shows place at left (Number p) =
     (p ≡ at)
-    × HasNumber place.context left (λ digits rest. (begins_fraction rest ≡ false) × (number_max < digits_value digits))
+    × HasNumber place.context left (λ digits rest. (begins_fraction rest ≡ false)
+    × (WHOLE_NUMBER < digits_value digits))
 Shows place at left (Blank p) =
     (p ≡ at) × (place.context ≡ LineStart) × (place.has_token ≡ true) × (is_blank left ≡ true)
     × (goes_on false left ≡ true)

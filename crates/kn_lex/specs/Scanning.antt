@@ -2,13 +2,14 @@
 use Rattle.std.specs.Prelude.{ℕ, ◌≡◌, ◌+◌, Bool, true, false, not, ◌&&◌, ◌||◌, ◌==◌, nat_lt, List, [], ◌∷◌, take, drop}
 use Rattle.std.specs.Prelude.{Option, Some, None, MatchOption, if◌then◌else◌}
 use Rattle.std.specs.List.{prefix_len}
+use Rattle.kn_base.specs.declared.limits.TheConstants.{WHOLE_NUMBER}
 use Rattle.kn_base.specs.Decimal.{is_digit, digits_value}
 use Rattle.kn_lex.specs.Bytes.{is_gap, is_white, is_letter, begins_name, continues_name, continues_label, is_short_sign}
 use Rattle.kn_lex.specs.Bytes.{is_long_sign}
 use Rattle.kn_lex.specs.Spelling.{is_blank, is_continuation}
 use Rattle.kn_lex.specs.Cutting.{is_line_start}
 use Rattle.kn_lex.specs.Faults.{begins_foreign, begins_quote, begins_ampersand, begins_match, begins_fraction}
-use Rattle.kn_lex.specs.Faults.{number_max, goes_on}
+use Rattle.kn_lex.specs.Faults.{goes_on}
 use Rattle.kn_lex.specs.declared.quote.Quote.{Quote}
 use Rattle.kn_lex.specs.declared.quote.Quote.TheVariants.{Opening, Plain, Escaped, Returned, Joined}
 use Rattle.kn_lex.specs.declared.quote.Step.{Step}
@@ -119,7 +120,7 @@ stuck_fault at (byte ∷ bytes) =
 abbrev pub number_fault : ℕ → List ℕ → List ℕ → Option LexFault
 number_fault at digits rest =
     if begins_fraction rest then Some (Float at)
-    else if nat_lt number_max (digits_value digits) then Some (NumberFault at)
+    else if nat_lt WHOLE_NUMBER (digits_value digits) then Some (NumberFault at)
     else None
 
 -- the place of the first byte 0

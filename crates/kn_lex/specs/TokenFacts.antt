@@ -1,9 +1,9 @@
 -- What holds of each token of a text without faults.
 use Rattle.std.specs.Prelude.{◌≡◌, ℕ, ◌+◌, ◌<◌, ◌≤◌, Bool, true, ◌||◌, ◌==◌, List, [], ◌∷◌, length, take, drop}
+use Rattle.kn_base.specs.declared.limits.TheConstants.{WHOLE_NUMBER}
 use Rattle.kn_base.specs.Decimal.{digits_value}
 use Rattle.kn_lex.specs.Spelling.{is_label, is_body, is_name, is_number, is_sign, IsLiteral}
 use Rattle.kn_lex.specs.Cutting.{TokenView, ends_line}
-use Rattle.kn_lex.specs.Faults.{number_max}
 use Rattle.kn_lex.specs.declared.token.Sort.{Sort}
 use Rattle.kn_lex.specs.declared.token.Sort.TheVariants.{Label, Body, Name, Number, Text, Sign}
 
@@ -12,7 +12,7 @@ abbrev pub IsSpelled : Sort → List ℕ → Type 0
 IsSpelled Label bytes = is_label bytes ≡ true
 IsSpelled Body bytes = is_body bytes ≡ true
 IsSpelled Name bytes = is_name bytes ≡ true
-IsSpelled Number bytes = (is_number bytes ≡ true) × (digits_value bytes ≤ number_max)
+IsSpelled Number bytes = (is_number bytes ≡ true) × (digits_value bytes ≤ WHOLE_NUMBER)
 IsSpelled Text bytes = IsLiteral bytes
 IsSpelled Sign bytes = is_sign bytes ≡ true
 

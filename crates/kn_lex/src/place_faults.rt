@@ -2,8 +2,9 @@
 
 ghost use Rattle.std.specs.Prelude.{◌≡◌, ◌+◌, ◌<◌, ◌≤◌, ◌^◌, ◌==◌, nat_lt, true, false};
 ghost use Rattle.std.specs.Prelude.{None, Some, length, take, drop, IfSome, IfOk, IfErr, OnOk};
+ghost use Rattle.kn_base.specs.declared.limits.TheConstants.{WHOLE_NUMBER};
 ghost use Rattle.kn_base.specs.Decimal.{digits_value};
-ghost use Rattle.kn_lex.specs.Faults.{begins_fraction, begins_match, number_max, goes_on};
+ghost use Rattle.kn_lex.specs.Faults.{begins_fraction, begins_match, goes_on};
 ghost use Rattle.kn_lex.specs.Scanning.{lexeme_at, IsFoundAt, zero_place, is_bad_blank};
 ghost use Rattle.kn_lex.specs.Scanning.{stuck_fault, number_fault, lexeme_fault, fault_by, fault_at};
 
@@ -12,10 +13,9 @@ use crate::fault::LexFault;
 use crate::lexeme::{Context, Lexeme, Place, is_number};
 use crate::scan::{is_blank, lexeme_at, starting_lexeme};
 use crate::token::Sort;
+use kn_base::digits_within;
+use kn_base::limits::WHOLE_NUMBER;
 use memchr::memchr;
-
-/// The greatest number, which is that of 32 bits with a sign.
-const NUMBER_MAX: u64 = 2_147_483_647;
 
 /// Whether a byte stands in a text, from outside comments on, that is neither white space nor in a comment.
 #[inline(never)]
@@ -70,16 +70,9 @@ fn begins_fraction(rest: &[u8]) -> bool
 
 /// Whether digits spell a number that is too large.
 fn is_too_large(digits: &[u8]) -> bool
-    ensures { result ≡ nat_lt number_max (digits_value digits.now) }
+    ensures { result ≡ nat_lt WHOLE_NUMBER (digits_value digits.now) }
 {
-    let mut value: u64 = 0;
-    for byte in digits {
-        value = value * 10 + u64::from(byte.saturating_sub(b'0'));
-        if value > NUMBER_MAX {
-            return true;
-        }
-    }
-    false
+    digits_within(WHOLE_NUMBER, digits).is_none()
 }
 
 fn number_fault(at: u32, digits: &[u8], rest: &[u8]) -> Option<LexFault>

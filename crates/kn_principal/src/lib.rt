@@ -4,4 +4,4 @@
 pub mod laws;
 mod principal;
 
-pub use principal::{PrincipalFault, normal, same};
+pub use principal::{POLICY, PrincipalFault, normal, same};

@@ -10,6 +10,9 @@ use kn_base::limits::PRINCIPAL_BYTES;
 use kn_base::{NoMemory, Octets};
 use std::alloc::Global;
 
+/// The local policy, the one authorizer that needs no signature (RFC 2704, section 4, the Authorizer field).
+pub const POLICY: &[u8] = b"POLICY";
+
 /// Why a text isn't taken as a principal. The limit and the numbers are keynoted's own.
 #[derive(Clone, Copy, PartialEq, Eq)]
 pub enum PrincipalFault {

@@ -2,7 +2,7 @@
 ghost use Rattle.std.specs.Prelude.{◌≡◌, ◌+◌, ◌≤◌, ◌<◌, ◌⊎◌, Option, IfOk, IfErr, IfSome, length, true};
 ghost use Rattle.kn_trees.specs.Kinds.{is_well_kinded};
 ghost use Rattle.kn_trees.specs.Depths.{program_depth};
-ghost use Rattle.kn_fields.specs.Fields.{tokens_of_part};
+ghost use Rattle.kn_fields.specs.Fields.{tokens_in_span};
 ghost use Rattle.kn_fields.specs.Depth.{IsTooDeep};
 ghost use Rattle.kn_trees.specs.declared.program.Program.{Program};
 ghost use Rattle.kn_program.specs.Conditions.{IsConditions, Shows, program_of, Gives};
@@ -11,7 +11,7 @@ ghost use Rattle.kn_program.specs.declared.fault.ProgramFault.TheVariants.{NoMem
 
 use crate::clauses::program;
 use crate::fault::ProgramFault;
-use kn_fields::{Cursor, Part};
+use kn_fields::{Cursor, FieldSpan};
 use kn_lex::Tokens;
 use kn_trees::{Program, is_well_kinded};
 use std::alloc::Global;
@@ -24,18 +24,18 @@ use std::alloc::Global;
 pub fn conditions(
     alloc: Global,
     tokens: &Tokens<'_>,
-    part: Part,
+    part: FieldSpan,
 ) -> Result<Option<Program>, ProgramFault>
     requires before { part.label < part.end }
     requires within { part.end ≤ length tokens.now }
-    requires shallow { IsTooDeep (tokens_of_part part tokens.now) → ⊥ }
-    ensures program { IfOk result (λ conditions. IsConditions (tokens_of_part part tokens.now) conditions) }
-    ensures fault { IfErr result (λ fault. (fault ≡ NoMemory) ⊎ Shows (tokens_of_part part tokens.now) fault) }
-    ensures each_program { (conditions : Option Program) → IsConditions (tokens_of_part part tokens.now) conditions
+    requires shallow { IsTooDeep (tokens_in_span part tokens.now) → ⊥ }
+    ensures program { IfOk result (λ conditions. IsConditions (tokens_in_span part tokens.now) conditions) }
+    ensures fault { IfErr result (λ fault. (fault ≡ NoMemory) ⊎ Shows (tokens_in_span part tokens.now) fault) }
+    ensures each_program { (conditions : Option Program) → IsConditions (tokens_in_span part tokens.now) conditions
         → (result ≡ Ok conditions) ⊎ (result ≡ Err NoMemory) }
-    ensures each_fault { (fault : ProgramFault) → Shows (tokens_of_part part tokens.now) fault
+    ensures each_fault { (fault : ProgramFault) → Shows (tokens_in_span part tokens.now) fault
         → (result ≡ Err fault) ⊎ (result ≡ Err NoMemory) }
-    ensures given { Gives result (program_of (tokens_of_part part tokens.now)) }
+    ensures given { Gives result (program_of (tokens_in_span part tokens.now)) }
     ensures well_kinded { IfOk result (λ conditions. IfSome conditions (λ program. is_well_kinded program ≡ true)) }
     ensures shallow { IfOk result (λ conditions. IfSome conditions (λ program. program_depth program ≤ 1700)) }
 {
@@ -47,11 +47,11 @@ pub fn conditions(
 fn read_conditions(
     alloc: Global,
     tokens: &Tokens<'_>,
-    part: Part,
+    part: FieldSpan,
 ) -> Result<Option<Program>, ProgramFault>
     requires before { part.label < part.end }
     requires within { part.end ≤ length tokens.now }
-    ensures given { Gives result (program_of (tokens_of_part part tokens.now)) }
+    ensures given { Gives result (program_of (tokens_in_span part tokens.now)) }
     ensures well_kinded { IfOk result (λ conditions. IfSome conditions (λ program. is_well_kinded program ≡ true)) }
 {
     let mut cursor = Cursor::of_field(tokens, part);

@@ -23,6 +23,7 @@ use kn_base::{List, NoMemory, Octets};
 use kn_cond::field_value;
 use kn_env::{Env, Query};
 use kn_names::Names;
+use kn_principal::POLICY;
 use kn_system::{Piece, System};
 use std::alloc::Global;
 
@@ -70,7 +71,7 @@ impl Numbered {
             ≡ record { levels = values; requesters = false ∷ []; rows = [] }) }
     {
         let mut names = Names::new(alloc);
-        names.push(b"POLICY".as_slice())?;
+        names.push(POLICY)?;
         Ok(Numbered {
             names,
             system: System::start(alloc, Tally, values),

@@ -21,13 +21,11 @@ use crate::view::{Private, View};
 use kn_base::limits::{PRINCIPAL_BYTES, PRIVATE_ASSERTIONS, PRIVATE_BYTES, REQUESTERS};
 use kn_base::{List, NoMemory, Octets};
 use kn_env::{Attributes, EnvFault, Values};
-use kn_principal::{PrincipalFault, normal, same};
+use kn_principal::{POLICY, PrincipalFault, normal, same};
 use kn_store::Snapshot;
 use kn_trees::Assertion;
 use std::alloc::Global;
 use std::marker::Model;
-
-const POLICY: &[u8] = b"POLICY";
 
 /// An open session of a connection.
 #[derive(Drop)]
