@@ -23,7 +23,8 @@ use Rattle.kn_words.specs.Commands.{AskFor, CheckFor, FollowFor, GenFor, ServeFo
 use Rattle.keynoted.specs.Outcomes.{OutsideSeen, Outcome, IsOutcome, IsPrintedOrCut, IsEnded, status_of, line_of}
 use Rattle.keynoted.specs.Outcomes.{NoCommand, WordsLackMemory, AskEnded, ServeEnded, CheckEnded, FollowEnded}
 use Rattle.keynoted.specs.Outcomes.{VerifyEnded, GenEnded}
-use Rattle.keynoted.specs.Calling.{AskLeads, CheckLeads, LogLeads, TranscriptLeads, IsOrderlyLink, NoReadFailed}
+use Rattle.keynoted.specs.Calling.{AskCallsFor, CheckCallsFor, LogCallsFor, TranscriptCallsFor, IsOrderlyLink}
+use Rattle.keynoted.specs.Calling.{NoReadFailed}
 use Rattle.keynoted.specs.Calling.{CallsFor, EndsWith, ByAsk, ByServe, ByCheck, ByFollow, ByVerify, ByGen}
 use Rattle.kn_words.proofs.WordSplits.{ask_is_no_check, gen_is_no_ask, gen_is_no_check, ask_is_no_serve}
 use Rattle.kn_words.proofs.WordSplits.{check_is_no_serve, follow_is_no_ask, follow_is_no_check, follow_is_no_serve}
@@ -32,8 +33,8 @@ use Rattle.kn_words.proofs.WordSplits.{verify_is_no_check, verify_is_no_follow, 
 use Rattle.keynoted.proofs.FileLaws.{told_by, same_ask, same_names, same_log, same_files}
 use Rattle.keynoted.proofs.FileLaws.{same_transcript}
 use Rattle.keynoted.proofs.OneStatusLaws.{ask_once, check_once, log_once, transcript_once}
-use Rattle.keynoted.proofs.CauseLaws.{IsServedSo, IsServedWhole, ask_leads, serve_leads, check_leads, follow_leads}
-use Rattle.keynoted.proofs.CauseLaws.{verify_leads}
+use Rattle.keynoted.proofs.CauseLaws.{IsServedSo, IsServedWhole, ask_calls, serve_calls, check_calls, follow_calls}
+use Rattle.keynoted.proofs.CauseLaws.{verify_calls}
 
 -- an input that is in order is served to its end
 orderly_done : (o o' : LinkSeen) (due status : ℕ) → IsOrderlyLink o o' × (due ≡ 0) → IsServedSo o o' status
@@ -56,20 +57,20 @@ module _ {C R : Type 0} (door : R → DoorSeen (ServedSeen C)) (link : C → Lin
   abbrev AskSo : ℕ → Type 0
   AskSo next = IsServedSo before.link after.link next
 
-  ask_ends : (names : AskNames) (status : ℕ) → AskLeads before.files names AskOn due
-      → AskLeads before.files names AskSo status ⊎ (status ≡ 5) → EndsWith due status
+  ask_ends : (names : AskNames) (status : ℕ) → AskCallsFor before.files names AskOn due
+      → AskCallsFor before.files names AskSo status ⊎ (status ≡ 5) → EndsWith due status
   ask_ends names status leads (inl to) =
       ask_once before.files AskOn AskSo due status (orderly_done before.link after.link due status) names leads to
   ask_ends names status leads (inr five) = inr five
 
   called_ask : (names : AskNames) → AskFor given names → NoReadFailed before.files after.files
-      → AskLeads before.files names AskOn due
+      → AskCallsFor before.files names AskOn due
       → (outcome : Outcome) → IsOutcome door link given before after outcome → EndsWith due (status_of outcome)
   called_ask names words calm leads (AskEnded others ending) cause =
       ask_ends names (status_of_ask ending) leads
-      (subst (λ (n : AskNames). AskLeads before.files n AskSo (status_of_ask ending) ⊎ (status_of_ask ending ≡ 5))
+      (subst (λ (n : AskNames). AskCallsFor before.files n AskSo (status_of_ask ending) ⊎ (status_of_ask ending ≡ 5))
       (same_ask given others names cause.0 words)
-      (ask_leads before.files after.files (told_by before.files names.policy _ _ _ due leads) calm
+      (ask_calls before.files after.files (told_by before.files names.policy _ _ _ due leads) calm
       before.link after.link others (status_of_ask ending) ending cause.1 refl))
   called_ask names words calm leads NoCommand cause = absurd (cause.0.ask names words)
   called_ask names words calm leads WordsLackMemory cause = absurd (ask_is_no_serve given names words cause.0.serve)
@@ -84,21 +85,22 @@ module _ {C R : Type 0} (door : R → DoorSeen (ServedSeen C)) (link : C → Lin
   called_ask names words calm leads (GenEnded numbers made) cause =
       absurd (gen_is_no_ask given numbers names cause.0 words)
 
-  serve_ends : (names : AskNames) (status : ℕ) → AskLeads before.files names (λ next. next ≡ 0) due
-      → AskLeads before.files names IsServedWhole status ⊎ (status ≡ 5) → EndsWith due status
+  serve_ends : (names : AskNames) (status : ℕ) → AskCallsFor before.files names (λ next. next ≡ 0) due
+      → AskCallsFor before.files names IsServedWhole status ⊎ (status ≡ 5) → EndsWith due status
   serve_ends names status leads (inl to) =
       ask_once before.files (λ next. next ≡ 0) IsServedWhole due status (λ none so. inl (so ∙ sym none)) names leads to
   serve_ends names status leads (inr five) = inr five
 
   called_serve : (order : Order) → ServeFor given order → NoReadFailed before.files after.files
-      → ¬ Rose before.net.faults after.net.faults → AskLeads before.files order.files (λ next. next ≡ 0) due
+      → ¬ Rose before.net.faults after.net.faults → AskCallsFor before.files order.files (λ next. next ≡ 0) due
       → (outcome : Outcome) → IsOutcome door link given before after outcome → EndsWith due (status_of outcome)
   called_serve order words calm net_calm leads (ServeEnded other ending) cause =
       serve_ends order.files (status_of_serve ending) leads
       (subst
-      (λ (n : AskNames). AskLeads before.files n IsServedWhole (status_of_serve ending) ⊎ (status_of_serve ending ≡ 5))
+      (λ (n : AskNames). AskCallsFor before.files n IsServedWhole (status_of_serve ending)
+      ⊎ (status_of_serve ending ≡ 5))
       (same_files given other order cause.0 words)
-      (serve_leads before.files after.files (told_by before.files order.files.policy _ _ _ due leads) calm
+      (serve_calls before.files after.files (told_by before.files order.files.policy _ _ _ due leads) calm
       door link before.net after.net net_calm other (status_of_serve ending) ending cause.1 refl))
   called_serve order words calm net_calm leads NoCommand cause = absurd (cause.0.serve order words)
   called_serve order words calm net_calm leads WordsLackMemory cause = inr refl
@@ -113,19 +115,19 @@ module _ {C R : Type 0} (door : R → DoorSeen (ServedSeen C)) (link : C → Lin
   called_serve order words calm net_calm leads (GenEnded numbers made) cause =
       absurd (gen_is_no_serve given numbers cause.0 words.serve)
 
-  check_ends : (names : CheckNames) (status : ℕ) → CheckLeads before.files names due
-      → CheckLeads before.files names status ⊎ (status ≡ 5) → EndsWith due status
+  check_ends : (names : CheckNames) (status : ℕ) → CheckCallsFor before.files names due
+      → CheckCallsFor before.files names status ⊎ (status ≡ 5) → EndsWith due status
   check_ends names status leads (inl to) = check_once law before.files names due status leads to
   check_ends names status leads (inr five) = inr five
 
   called_check : (names : CheckNames) → CheckFor given names → NoReadFailed before.files after.files
-      → CheckLeads before.files names due
+      → CheckCallsFor before.files names due
       → (outcome : Outcome) → IsOutcome door link given before after outcome → EndsWith due (status_of outcome)
   called_check names words calm leads (CheckEnded others ending) cause =
       check_ends names (status_of_check ending) leads
-      (subst (λ (n : CheckNames). CheckLeads before.files n (status_of_check ending) ⊎ (status_of_check ending ≡ 5))
+      (subst (λ (n : CheckNames). CheckCallsFor before.files n (status_of_check ending) ⊎ (status_of_check ending ≡ 5))
       (same_names given others names cause.0 words)
-      (check_leads before.files after.files (told_by before.files names.policy _ _ _ due leads) calm
+      (check_calls before.files after.files (told_by before.files names.policy _ _ _ due leads) calm
       others (status_of_check ending) ending cause.1 refl))
   called_check names words calm leads NoCommand cause = absurd (cause.0.check names words)
   called_check names words calm leads WordsLackMemory cause = absurd (check_is_no_serve given names words cause.0.serve)
@@ -140,19 +142,19 @@ module _ {C R : Type 0} (door : R → DoorSeen (ServedSeen C)) (link : C → Lin
   called_check names words calm leads (GenEnded numbers made) cause =
       absurd (gen_is_no_check given numbers names cause.0 words)
 
-  log_ends : (name : List ℕ) (status : ℕ) → LogLeads before.files name due
-      → LogLeads before.files name status ⊎ (status ≡ 5) → EndsWith due status
+  log_ends : (name : List ℕ) (status : ℕ) → LogCallsFor before.files name due
+      → LogCallsFor before.files name status ⊎ (status ≡ 5) → EndsWith due status
   log_ends name status leads (inl to) = log_once before.files name due status leads to
   log_ends name status leads (inr five) = inr five
 
   called_follow : (name : List ℕ) → FollowFor given name → NoReadFailed before.files after.files
-      → LogLeads before.files name due
+      → LogCallsFor before.files name due
       → (outcome : Outcome) → IsOutcome door link given before after outcome → EndsWith due (status_of outcome)
   called_follow name words calm leads (FollowEnded other ending) cause =
       log_ends name (status_of_follow ending) leads
-      (subst (λ (n : List ℕ). LogLeads before.files n (status_of_follow ending) ⊎ (status_of_follow ending ≡ 5))
+      (subst (λ (n : List ℕ). LogCallsFor before.files n (status_of_follow ending) ⊎ (status_of_follow ending ≡ 5))
       (same_log given other name cause.0 words)
-      (follow_leads before.files after.files (told_by before.files name _ _ _ due leads) calm ends_once
+      (follow_calls before.files after.files (told_by before.files name _ _ _ due leads) calm ends_once
       other (status_of_follow ending) ending cause.1 refl))
   called_follow name words calm leads NoCommand cause = absurd (cause.0.follow name words)
   called_follow name words calm leads WordsLackMemory cause = absurd (follow_is_no_serve given name words cause.0.serve)
@@ -167,20 +169,20 @@ module _ {C R : Type 0} (door : R → DoorSeen (ServedSeen C)) (link : C → Lin
   called_follow name words calm leads (GenEnded numbers made) cause =
       absurd (gen_is_no_follow given numbers name cause.0 words)
 
-  transcript_ends : (names : VerifyNames) (status : ℕ) → TranscriptLeads before.files names due
-      → TranscriptLeads before.files names status ⊎ (status ≡ 5) → EndsWith due status
+  transcript_ends : (names : VerifyNames) (status : ℕ) → TranscriptCallsFor before.files names due
+      → TranscriptCallsFor before.files names status ⊎ (status ≡ 5) → EndsWith due status
   transcript_ends names status leads (inl to) = transcript_once before.files names due status leads to
   transcript_ends names status leads (inr five) = inr five
 
   called_verify : (names : VerifyNames) → VerifyFor given names → NoReadFailed before.files after.files
-      → TranscriptLeads before.files names due
+      → TranscriptCallsFor before.files names due
       → (outcome : Outcome) → IsOutcome door link given before after outcome → EndsWith due (status_of outcome)
   called_verify names words calm leads (VerifyEnded others ending) cause =
       transcript_ends names (status_of_verify ending) leads
       (subst
-      (λ (n : VerifyNames). TranscriptLeads before.files n (status_of_verify ending) ⊎ (status_of_verify ending ≡ 5))
+      (λ (n : VerifyNames). TranscriptCallsFor before.files n (status_of_verify ending) ⊎ (status_of_verify ending ≡ 5))
       (same_transcript given others names cause.0 words)
-      (verify_leads before.files after.files (told_by before.files names.policy _ _ _ due leads) calm one_verdict
+      (verify_calls before.files after.files (told_by before.files names.policy _ _ _ due leads) calm one_verdict
       others (status_of_verify ending) ending cause.1 refl))
   called_verify names words calm leads NoCommand cause = absurd (cause.0.verify names words)
   called_verify names words calm leads WordsLackMemory cause =

@@ -65,8 +65,10 @@ use Rattle.kn_commands.specs.Checking.{HasQuery, Reached, CheckCause, IsFaultyTe
 use Rattle.kn_commands.specs.Following.{HasLogFault, FollowCause}
 use Rattle.keynoted.specs.Serving.{ServeCause}
 use Rattle.kn_commands.specs.Verifying.{IsScriptStopped, AreRepliesStopped, IsTranscriptRead, IsRefused, VerifyCause}
-use Rattle.keynoted.specs.Calling.{TooLarge, Failed, Passed, KeysLead, AskLeads, IsTextOfProof, ReplyLeads, CheckLeads}
-use Rattle.keynoted.specs.Calling.{PolicyLeads, LogLeads, IsAccepted, RepliesLead, AnyScriptLeads, TranscriptLeads}
+use Rattle.keynoted.specs.Calling.{TooLarge, Failed, Passed, KeysCallFor, AskCallsFor, IsTextOfProof, ReplyCallsFor}
+use Rattle.keynoted.specs.Calling.{CheckCallsFor}
+use Rattle.keynoted.specs.Calling.{PolicyCallsFor, LogCallsFor, IsAccepted, RepliesCallFor, TranscriptScriptCallsFor}
+use Rattle.keynoted.specs.Calling.{TranscriptCallsFor}
 use Rattle.keynoted.proofs.FileLaws.{IsSpecified, held, held_too_much}
 
 -- an input that is in order is served to its end, if no call of the link fails and memory doesn't run out
@@ -107,7 +109,7 @@ module _ (f f' : FilesSeen) (specified : IsSpecified f) (calm : ¬ Rose f.faults
   -- a policy file stopped the run
   module _ (name : List ℕ) (On : List ℕ → ℕ → Type 0) (due : ℕ) where
     stopped_policy : (stop : InputFault) → StopsAtPolicy f f' name stop → due ≡ status_of stop
-        → PolicyLeads f name On due ⊎ (due ≡ 5)
+        → PolicyCallsFor f name On due ⊎ (due ≡ 5)
     stopped_policy S.FileFailed stops at = absurd (calm stops.rose)
     stopped_policy S.FileTooLarge stops at =
         let much = held_too_much f name specified stops.1 in inl (TooLarge much.0 much.1 at)
@@ -121,23 +123,24 @@ module _ (f f' : FilesSeen) (specified : IsSpecified f) (calm : ¬ Rose f.faults
 
   -- the files of `ask` and `serve`
   module _ (names : AskNames) (On : ℕ → Type 0) (due : ℕ) where
-    abbrev Leads : Type 0
-    Leads = AskLeads f names On due ⊎ (due ≡ 5)
+    abbrev IsCalledFor : Type 0
+    IsCalledFor = AskCallsFor f names On due ⊎ (due ≡ 5)
 
-    ask_stopped : (stop : InputFault) → StopsAtPolicy f f' names.policy stop → due ≡ status_of stop → Leads
+    ask_stopped : (stop : InputFault) → StopsAtPolicy f f' names.policy stop → due ≡ status_of stop → IsCalledFor
     ask_stopped stop stops at =
-        stopped_policy names.policy (λ bytes next. KeysLead f names.keys On next) due stop stops at
+        stopped_policy names.policy (λ bytes next. KeysCallFor f names.keys On next) due stop stops at
 
-    passed_policy : (bytes : List ℕ) → IsPolicy f names.policy bytes → KeysLead f names.keys On due → Leads
+    passed_policy : (bytes : List ℕ) → IsPolicy f names.policy bytes → KeysCallFor f names.keys On due → IsCalledFor
     passed_policy bytes policy on =
         inl (Passed bytes (held f names.policy bytes specified policy.content) (policy.loadable, on))
 
     module _ (name bytes : List ℕ) (named : names.keys ≡ Some name) (policy : IsPolicy f names.policy bytes) where
-      tried_keys : KeysLead f (Some name) On due → Leads
+      tried_keys : KeysCallFor f (Some name) On due → IsCalledFor
       tried_keys lead =
-          passed_policy bytes policy (subst (λ (k : Option (List ℕ)). KeysLead f k On due) (sym named) lead)
+          passed_policy bytes policy (subst (λ (k : Option (List ℕ)). KeysCallFor f k On due) (sym named) lead)
 
-      stopped_keys : (stop : InputFault) → StopsAtKeys f f' (names.policy ∷ []) name stop → due ≡ status_of stop → Leads
+      stopped_keys : (stop : InputFault) → StopsAtKeys f f' (names.policy ∷ []) name stop → due ≡ status_of stop
+          → IsCalledFor
       stopped_keys S.FileFailed stops at = absurd (calm stops.rose)
       stopped_keys S.FileTooLarge stops at =
           let much = held_too_much f name specified stops.1 in tried_keys (TooLarge much.0 much.1 at)
@@ -149,40 +152,40 @@ module _ (f f' : FilesSeen) (specified : IsSpecified f) (calm : ¬ Rose f.faults
       stopped_keys (S.Policy n fault) stops at = absurd stops
       stopped_keys (S.Limit n word count) stops at = absurd stops
 
-    keys_stopped : (stop : InputFault) → AreKeysStopped f f' names stop → due ≡ status_of stop → Leads
+    keys_stopped : (stop : InputFault) → AreKeysStopped f f' names stop → due ≡ status_of stop → IsCalledFor
     keys_stopped stop k at = stopped_keys k.name k.bytes k.named k.policy stop k.stops at
 
-    passed_keys : (name : Option (List ℕ)) (keys : KeyFile) → AreKeys f name keys → On due → KeysLead f name On due
+    passed_keys : (name : Option (List ℕ)) (keys : KeyFile) → AreKeys f name keys → On due → KeysCallFor f name On due
     passed_keys None keys known on = on
     passed_keys (Some name) keys (text, content, is) on =
         Passed text (held f name text specified content) (keys, is, on)
 
-  pub ask_leads : (o o' : LinkSeen) (names : AskNames) (due : ℕ) (ending : AskEnding) → AskCause f f' o o' names ending
-      → due ≡ status_of_ask ending → AskLeads f names (IsServedSo o o') due ⊎ (due ≡ 5)
-  ask_leads o o' names due (A.PolicyStopped stop) cause at = ask_stopped names (IsServedSo o o') due stop cause.0 at
-  ask_leads o o' names due (A.KeysStopped stop) cause at = keys_stopped names (IsServedSo o o') due stop cause.0 at
-  ask_leads o o' names due (A.Served ended) cause at =
+  pub ask_calls : (o o' : LinkSeen) (names : AskNames) (due : ℕ) (ending : AskEnding) → AskCause f f' o o' names ending
+      → due ≡ status_of_ask ending → AskCallsFor f names (IsServedSo o o') due ⊎ (due ≡ 5)
+  ask_calls o o' names due (A.PolicyStopped stop) cause at = ask_stopped names (IsServedSo o o') due stop cause.0 at
+  ask_calls o o' names due (A.KeysStopped stop) cause at = keys_stopped names (IsServedSo o o') due stop cause.0 at
+  ask_calls o o' names due (A.Served ended) cause at =
       passed_policy names (IsServedSo o o') due cause.bytes cause.policy
       (passed_keys names (IsServedSo o o') due names.keys cause.keys cause.known (ended, at, cause.runs.complete))
 
   module _ {C R : Type 0} (door : R → DoorSeen (ServedSeen C)) (link : C → LinkSeen) (n n' : NetSeen R)
       (net_calm : ¬ Rose n.faults n'.faults) where
-    pub serve_leads : (order : Order) (due : ℕ) (ending : ServeEnding) → ServeCause door link f f' n n' order ending
-        → due ≡ status_of_serve ending → AskLeads f order.files IsServedWhole due ⊎ (due ≡ 5)
-    serve_leads order due (V.PolicyStopped stop) cause at = ask_stopped order.files IsServedWhole due stop cause.0 at
-    serve_leads order due (V.KeysStopped stop) cause at = keys_stopped order.files IsServedWhole due stop cause.0 at
-    serve_leads order due (V.Ended D.BindMemory) cause at = inr at
-    serve_leads order due (V.Ended D.Unbound) cause at = absurd (net_calm cause.runs.0)
-    serve_leads order due (V.Ended D.WorkMemory) cause at = inr at
-    serve_leads order due (V.Ended D.DoorFailed) cause at = absurd (net_calm cause.runs.3)
-    serve_leads order due (V.Ended (D.Served finished version)) cause at =
+    pub serve_calls : (order : Order) (due : ℕ) (ending : ServeEnding) → ServeCause door link f f' n n' order ending
+        → due ≡ status_of_serve ending → AskCallsFor f order.files IsServedWhole due ⊎ (due ≡ 5)
+    serve_calls order due (V.PolicyStopped stop) cause at = ask_stopped order.files IsServedWhole due stop cause.0 at
+    serve_calls order due (V.KeysStopped stop) cause at = keys_stopped order.files IsServedWhole due stop cause.0 at
+    serve_calls order due (V.Ended D.BindMemory) cause at = inr at
+    serve_calls order due (V.Ended D.Unbound) cause at = absurd (net_calm cause.runs.0)
+    serve_calls order due (V.Ended D.WorkMemory) cause at = inr at
+    serve_calls order due (V.Ended D.DoorFailed) cause at = absurd (net_calm cause.runs.3)
+    serve_calls order due (V.Ended (D.Served finished version)) cause at =
         passed_policy order.files IsServedWhole due cause.bytes cause.policy
         (passed_keys order.files IsServedWhole due order.files.keys cause.keys cause.known at)
 
   -- the files of `check`
   module _ (names : CheckNames) (due : ℕ) where
     passed_script : (session : Session) (values : List (List ℕ)) → HasQuery f names session values
-        → ReplyLeads f names.reply session values due → CheckLeads f names due
+        → ReplyCallsFor f names.reply session values due → CheckCallsFor f names due
     passed_script session values has leads =
         Passed has.bytes (held f names.policy has.bytes specified has.policy.content) (
           has.policy.loadable,
@@ -190,7 +193,7 @@ module _ (f f' : FilesSeen) (specified : IsSpecified f) (calm : ¬ Rose f.faults
         )
 
     too_large : (source : Source) → due ≡ 2 → Reached f names source → IsTooLarge f (name_of names source)
-        → CheckLeads f names due
+        → CheckCallsFor f names due
     too_large Policy at reached large = let much = held_too_much f names.policy specified large in
         TooLarge much.0 much.1 at
     too_large TheScript at (bytes, policy) large =
@@ -200,31 +203,31 @@ module _ (f f' : FilesSeen) (specified : IsSpecified f) (calm : ¬ Rose f.faults
         let much = held_too_much f names.reply specified large in
         passed_script session values query (TooLarge much.0 much.1 at)
 
-    pub check_leads : (ending : CheckEnding) → CheckCause f f' names ending → due ≡ status_of_check ending
-        → CheckLeads f names due ⊎ (due ≡ 5)
-    check_leads (Stopped source S.FileFailed) cause at = absurd (calm cause.1.rose)
-    check_leads (Stopped source S.FileTooLarge) cause at = inl (too_large source at cause.0 cause.2)
-    check_leads (Stopped source (S.Policy n fault)) (is, bytes, read, faulty) at =
+    pub check_calls : (ending : CheckEnding) → CheckCause f f' names ending → due ≡ status_of_check ending
+        → CheckCallsFor f names due ⊎ (due ≡ 5)
+    check_calls (Stopped source S.FileFailed) cause at = absurd (calm cause.1.rose)
+    check_calls (Stopped source S.FileTooLarge) cause at = inl (too_large source at cause.0 cause.2)
+    check_calls (Stopped source (S.Policy n fault)) (is, bytes, read, faulty) at =
         inl (Failed bytes (held f names.policy bytes specified read.content) (faulty_policy bytes n fault faulty) at)
-    check_leads (Stopped source (S.Limit n word count)) (is, bytes, read, limit) at =
+    check_calls (Stopped source (S.Limit n word count)) (is, bytes, read, limit) at =
         inl (Failed bytes (held f names.policy bytes specified read.content) (full_policy bytes n word count limit) at)
-    check_leads (Stopped source S.Memory) cause at = inr at
-    check_leads (Stopped source S.Words) cause at = absurd cause
-    check_leads (Stopped source (S.KeyLine n)) cause at = absurd cause
-    check_leads NoQuery (asked, none) at =
+    check_calls (Stopped source S.Memory) cause at = inr at
+    check_calls (Stopped source S.Words) cause at = absurd cause
+    check_calls (Stopped source (S.KeyLine n)) cause at = absurd cause
+    check_calls NoQuery (asked, none) at =
         inl (Passed none.bytes (held f names.policy none.bytes specified none.policy.content) (
           none.policy.loadable,
           Failed none.script (held f names.script none.script specified none.content) none.none at,
         ))
-    check_leads (Faulty fault line) c at =
+    check_calls (Faulty fault line) c at =
         inl (passed_script c.session c.values c.tried.query
         (Failed c.text (held f names.reply c.text specified c.tried.content)
         (faulty_is_no_proof c.session c.values c.text fault line c.shows) at))
-    check_leads (Rejected reject) c at =
+    check_calls (Rejected reject) c at =
         inl (passed_script c.session c.values c.tried.query
         (Failed c.text (held f names.reply c.text specified c.tried.content)
         (rejected_is_no_proof c.session c.values c.text reject c.shows) at))
-    check_leads (Proved value name) c at =
+    check_calls (Proved value name) c at =
         let shows = c.shows in
         let proof : IsTextOfProof c.session c.values c.text shows.reply =
         record { read = shows.read; to_query = shows.proved.to_query; proof = shows.proved.proof } in
@@ -235,33 +238,33 @@ module _ (f f' : FilesSeen) (specified : IsSpecified f) (calm : ¬ Rose f.faults
   module _ (ends_once : (log : List ℕ) → OneEnding log) (name : List ℕ) (due : ℕ) where
     -- a log with a fault is no file of replies that make a replica
     faulty_log : (fault : FollowFault) → fault ≢ F.NoMemory → HasLogFault f f' name fault → due ≡ 11
-        → LogLeads f name due
+        → LogCallsFor f name due
     faulty_log fault some has at =
         Failed has.log (held f name has.log specified has.read.content)
         (λ replica is. (ends_once has.log).not_both replica fault some is has.is) at
 
-    pub follow_leads : (ending : FollowEnding) → FollowCause f f' name ending → due ≡ status_of_follow ending
-        → LogLeads f name due ⊎ (due ≡ 5)
-    follow_leads W.FileFailed cause at = absurd (calm cause.rose)
-    follow_leads W.FileTooLarge cause at =
+    pub follow_calls : (ending : FollowEnding) → FollowCause f f' name ending → due ≡ status_of_follow ending
+        → LogCallsFor f name due ⊎ (due ≡ 5)
+    follow_calls W.FileFailed cause at = absurd (calm cause.rose)
+    follow_calls W.FileTooLarge cause at =
         let much = held_too_much f name specified cause.1 in inl (TooLarge much.0 much.1 at)
-    follow_leads W.Memory cause at = inr at
-    follow_leads (W.Line at) cause is = inl (faulty_log (F.Line at) (λ same. absurd (cc)) cause is)
-    follow_leads (W.Gap from have) cause is = inl (faulty_log (F.Gap from have) (λ same. absurd (cc)) cause is)
-    follow_leads (W.Refused place) cause is = inl (faulty_log (F.Refused place) (λ same. absurd (cc)) cause is)
-    follow_leads (W.Followed version live) cause at =
+    follow_calls W.Memory cause at = inr at
+    follow_calls (W.Line at) cause is = inl (faulty_log (F.Line at) (λ same. absurd (cc)) cause is)
+    follow_calls (W.Gap from have) cause is = inl (faulty_log (F.Gap from have) (λ same. absurd (cc)) cause is)
+    follow_calls (W.Refused place) cause is = inl (faulty_log (F.Refused place) (λ same. absurd (cc)) cause is)
+    follow_calls (W.Followed version live) cause at =
         inl (Passed cause.log (held f name cause.log specified cause.read.content) (cause.replica, cause.follows, at))
 
   -- the files of `verify`
   module _ (one_verdict : OneVerdict) (names : VerifyNames) (due : ℕ) where
     passed_texts : (bytes script : List ℕ) → IsPolicy f names.policy bytes → HasContent f names.script script
-        → RepliesLead f names.replies bytes script due → TranscriptLeads f names due
+        → RepliesCallFor f names.replies bytes script due → TranscriptCallsFor f names due
     passed_texts bytes script policy content leads =
         Passed bytes (held f names.policy bytes specified policy.content)
         (policy.loadable, Passed script (held f names.script script specified content) leads)
 
     stopped_script : (stop : InputFault) → IsScriptStopped f f' names stop → due ≡ status_of stop
-        → TranscriptLeads f names due ⊎ (due ≡ 5)
+        → TranscriptCallsFor f names due ⊎ (due ≡ 5)
     stopped_script S.FileFailed c at = absurd (calm c.stops.rose)
     stopped_script S.FileTooLarge c at =
         let much = held_too_much f names.script specified c.stops.1 in
@@ -274,7 +277,7 @@ module _ (f f' : FilesSeen) (specified : IsSpecified f) (calm : ¬ Rose f.faults
     stopped_script (S.KeyLine n) c at = absurd c.stops
 
     stopped_replies : (stop : InputFault) → AreRepliesStopped f f' names stop → due ≡ status_of stop
-        → TranscriptLeads f names due ⊎ (due ≡ 5)
+        → TranscriptCallsFor f names due ⊎ (due ≡ 5)
     stopped_replies S.FileFailed c at = absurd (calm c.stops.rose)
     stopped_replies S.FileTooLarge c at =
         let much = held_too_much f names.replies specified c.stops.1 in
@@ -297,7 +300,7 @@ module _ (f f' : FilesSeen) (specified : IsSpecified f) (calm : ¬ Rose f.faults
         absurd (cc same)
 
     refused_transcript : (fault : TranscriptFault) → fault ≢ T.NoMemory
-        → IsTranscriptRead f f' names (IsRefused fault) → due ≡ 12 → TranscriptLeads f names due
+        → IsTranscriptRead f f' names (IsRefused fault) → due ≡ 12 → TranscriptCallsFor f names due
     refused_transcript fault some c at =
         passed_texts c.bytes c.script c.policy c.script_is
         (Failed c.replies (held f names.replies c.replies specified c.replies_are)
@@ -307,18 +310,18 @@ module _ (f f' : FilesSeen) (specified : IsSpecified f) (calm : ¬ Rose f.faults
               both_verdicts c.bytes c.script c.replies c.replies_are.within fault faulty is
         ]) at)
 
-    pub verify_leads : (ending : VerifyEnding) → VerifyCause f f' names ending → due ≡ status_of_verify ending
-        → TranscriptLeads f names due ⊎ (due ≡ 5)
-    verify_leads (Y.PolicyStopped stop) c at =
-        stopped_policy names.policy (λ bytes next. AnyScriptLeads f names bytes next) due stop c at
-    verify_leads (Y.ScriptStopped stop) c at = stopped_script stop c at
-    verify_leads (Y.RepliesStopped stop) c at = stopped_replies stop c at
-    verify_leads (Y.Faulty (T.Missing n)) c at = inl (refused_transcript (T.Missing n) (λ same. absurd (cc)) c at)
-    verify_leads (Y.Faulty (T.Text n)) c at = inl (refused_transcript (T.Text n) (λ same. absurd (cc)) c at)
-    verify_leads (Y.Faulty (T.Wrong n)) c at = inl (refused_transcript (T.Wrong n) (λ same. absurd (cc)) c at)
-    verify_leads (Y.Faulty (T.Rest n)) c at = inl (refused_transcript (T.Rest n) (λ same. absurd (cc)) c at)
-    verify_leads (Y.Faulty (T.Foreign n)) c at = inl (refused_transcript (T.Foreign n) (λ same. absurd (cc)) c at)
-    verify_leads (Y.Faulty T.NoMemory) c at = inr at
-    verify_leads (Y.Verified answers version) c at =
+    pub verify_calls : (ending : VerifyEnding) → VerifyCause f f' names ending → due ≡ status_of_verify ending
+        → TranscriptCallsFor f names due ⊎ (due ≡ 5)
+    verify_calls (Y.PolicyStopped stop) c at =
+        stopped_policy names.policy (λ bytes next. TranscriptScriptCallsFor f names bytes next) due stop c at
+    verify_calls (Y.ScriptStopped stop) c at = stopped_script stop c at
+    verify_calls (Y.RepliesStopped stop) c at = stopped_replies stop c at
+    verify_calls (Y.Faulty (T.Missing n)) c at = inl (refused_transcript (T.Missing n) (λ same. absurd (cc)) c at)
+    verify_calls (Y.Faulty (T.Text n)) c at = inl (refused_transcript (T.Text n) (λ same. absurd (cc)) c at)
+    verify_calls (Y.Faulty (T.Wrong n)) c at = inl (refused_transcript (T.Wrong n) (λ same. absurd (cc)) c at)
+    verify_calls (Y.Faulty (T.Rest n)) c at = inl (refused_transcript (T.Rest n) (λ same. absurd (cc)) c at)
+    verify_calls (Y.Faulty (T.Foreign n)) c at = inl (refused_transcript (T.Foreign n) (λ same. absurd (cc)) c at)
+    verify_calls (Y.Faulty T.NoMemory) c at = inr at
+    verify_calls (Y.Verified answers version) c at =
         inl (passed_texts c.bytes c.script c.policy c.script_is
         (Passed c.replies (held f names.replies c.replies specified c.replies_are) ((answers, version, c.holds), at)))

@@ -37,7 +37,8 @@ HoldsWithin f name bytes = Holds f name bytes × (length bytes ≤ FILE_BYTES)
 abbrev pub HoldsTooMuch : FilesSeen → List ℕ → List ℕ → Type 0
 HoldsTooMuch f name bytes = Holds f name bytes × (FILE_BYTES < length bytes)
 
--- A file is tried: it is too large, which has status 2; or what it holds fails, which has this status; or it leads on.
+-- A file is tried: it is too large, which has status 2; or what it holds fails, which has this status; or what stands
+-- behind it decides.
 pub data FileCallsFor (f : FilesSeen) (name : List ℕ) (Fails : List ℕ → Type 0) (failed : ℕ)
     (On : List ℕ → ℕ → Type 0) (status : ℕ) : Type 0 where
   TooLarge : (bytes : List ℕ) → HoldsTooMuch f name bytes → status ≡ 2 → FileCallsFor f name Fails failed On status
@@ -46,19 +47,19 @@ pub data FileCallsFor (f : FilesSeen) (name : List ℕ) (Fails : List ℕ → Ty
   Passed : (bytes : List ℕ) → HoldsWithin f name bytes → On bytes status → FileCallsFor f name Fails failed On status
 
 -- the file of this name is tried as a policy: it fails where its assertions make no history
-abbrev pub PolicyLeads : FilesSeen → List ℕ → (List ℕ → ℕ → Type 0) → ℕ → Type 0
-PolicyLeads f name On status = FileCallsFor f name (λ bytes. ¬ IsLoadable (pieces_of bytes)) 3
+abbrev pub PolicyCallsFor : FilesSeen → List ℕ → (List ℕ → ℕ → Type 0) → ℕ → Type 0
+PolicyCallsFor f name On status = FileCallsFor f name (λ bytes. ¬ IsLoadable (pieces_of bytes)) 3
     (λ bytes next. IsLoadable (pieces_of bytes) × On bytes next) status
 
 -- the file of this name is tried as a key file
-abbrev pub KeysLead : FilesSeen → Option (List ℕ) → (ℕ → Type 0) → ℕ → Type 0
-KeysLead f None On status = On status
-KeysLead f (Some name) On status = FileCallsFor f name (λ text. (keys : KeyFile) → ¬ IsKeyFile text keys) 8
+abbrev pub KeysCallFor : FilesSeen → Option (List ℕ) → (ℕ → Type 0) → ℕ → Type 0
+KeysCallFor f None On status = On status
+KeysCallFor f (Some name) On status = FileCallsFor f name (λ text. (keys : KeyFile) → ¬ IsKeyFile text keys) 8
     (λ text next. (keys : KeyFile) × IsKeyFile text keys × On next) status
 
 -- the files of `ask` are tried
-abbrev pub AskLeads : FilesSeen → AskNames → (ℕ → Type 0) → ℕ → Type 0
-AskLeads f names On status = PolicyLeads f names.policy (λ bytes next. KeysLead f names.keys On next) status
+abbrev pub AskCallsFor : FilesSeen → AskNames → (ℕ → Type 0) → ℕ → Type 0
+AskCallsFor f names On status = PolicyCallsFor f names.policy (λ bytes next. KeysCallFor f names.keys On next) status
 
 -- the text is that of a reply to the query, and its rows are a proof of its value
 pub record IsTextOfProof (session : Session) (values : List (List ℕ)) (text : List ℕ) (reply : ReadReply) : Type 0 where
@@ -67,8 +68,8 @@ pub record IsTextOfProof (session : Session) (values : List (List ℕ)) (text : 
   pub proof : IsProof (equations_of session values) reply.rows reply.value
 
 -- the file of this name is tried as the reply to a query: a proof has status 0
-abbrev pub ReplyLeads : FilesSeen → List ℕ → Session → List (List ℕ) → ℕ → Type 0
-ReplyLeads f name session values status =
+abbrev pub ReplyCallsFor : FilesSeen → List ℕ → Session → List (List ℕ) → ℕ → Type 0
+ReplyCallsFor f name session values status =
     FileCallsFor f name (λ text. (reply : ReadReply) → ¬ IsTextOfProof session values text reply) 6
     (λ text next. (reply : ReadReply) × IsTextOfProof session values text reply × (next ≡ 0)) status
 
@@ -78,19 +79,19 @@ MeansNothing bytes script =
     (session : Session) (values : List (List ℕ)) → ¬ Means (loaded_history (pieces_of bytes)) script session values
 
 -- the script is tried over a policy of these bytes: it fails where it means no query
-abbrev pub ScriptLeads : FilesSeen → CheckNames → List ℕ → ℕ → Type 0
-ScriptLeads f names bytes status = FileCallsFor f names.script (λ script. MeansNothing bytes script) 10
+abbrev pub ScriptCallsFor : FilesSeen → CheckNames → List ℕ → ℕ → Type 0
+ScriptCallsFor f names bytes status = FileCallsFor f names.script (λ script. MeansNothing bytes script) 10
     (λ script next. (session : Session) × (values : List (List ℕ))
     × Means (loaded_history (pieces_of bytes)) script session values
-    × ReplyLeads f names.reply session values next) status
+    × ReplyCallsFor f names.reply session values next) status
 
 -- the files of `check` are tried
-abbrev pub CheckLeads : FilesSeen → CheckNames → ℕ → Type 0
-CheckLeads f names status = PolicyLeads f names.policy (λ bytes next. ScriptLeads f names bytes next) status
+abbrev pub CheckCallsFor : FilesSeen → CheckNames → ℕ → Type 0
+CheckCallsFor f names status = PolicyCallsFor f names.policy (λ bytes next. ScriptCallsFor f names bytes next) status
 
 -- the file of `follow` is tried: it fails where it isn't replies to LOG that make some replica
-abbrev pub LogLeads : FilesSeen → List ℕ → ℕ → Type 0
-LogLeads f name status = FileCallsFor f name (λ log. (replica : List Update) → ¬ IsLogFile log replica) 11
+abbrev pub LogCallsFor : FilesSeen → List ℕ → ℕ → Type 0
+LogCallsFor f name status = FileCallsFor f name (λ log. (replica : List Update) → ¬ IsLogFile log replica) 11
     (λ log next. (replica : List Update) × IsLogFile log replica × (next ≡ 0)) status
 
 -- over a policy of these bytes the replies are those of an accepted transcript of the script
@@ -100,18 +101,20 @@ IsAccepted bytes script replies = (answers : ℕ) × (version : ℕ)
 
 -- the file of this name is tried as the replies to a script over a policy of these bytes: it fails where the transcript
 -- isn't accepted
-abbrev pub RepliesLead : FilesSeen → List ℕ → List ℕ → List ℕ → ℕ → Type 0
-RepliesLead f name bytes script status = FileCallsFor f name (λ replies. ¬ IsAccepted bytes script replies) 12
+abbrev pub RepliesCallFor : FilesSeen → List ℕ → List ℕ → List ℕ → ℕ → Type 0
+RepliesCallFor f name bytes script status = FileCallsFor f name (λ replies. ¬ IsAccepted bytes script replies) 12
     (λ replies next. IsAccepted bytes script replies × (next ≡ 0)) status
 
 -- the script is tried over a policy of these bytes: each text is one, and none fails
-abbrev pub AnyScriptLeads : FilesSeen → VerifyNames → List ℕ → ℕ → Type 0
-AnyScriptLeads f names bytes status =
-    FileCallsFor f names.script (λ script. ⊥) 12 (λ script next. RepliesLead f names.replies bytes script next) status
+abbrev pub TranscriptScriptCallsFor : FilesSeen → VerifyNames → List ℕ → ℕ → Type 0
+TranscriptScriptCallsFor f names bytes status =
+    FileCallsFor f names.script (λ script. ⊥) 12 (λ script next. RepliesCallFor f names.replies bytes script next)
+    status
 
 -- the files of `verify` are tried
-abbrev pub TranscriptLeads : FilesSeen → VerifyNames → ℕ → Type 0
-TranscriptLeads f names status = PolicyLeads f names.policy (λ bytes next. AnyScriptLeads f names bytes next) status
+abbrev pub TranscriptCallsFor : FilesSeen → VerifyNames → ℕ → Type 0
+TranscriptCallsFor f names status =
+    PolicyCallsFor f names.policy (λ bytes next. TranscriptScriptCallsFor f names bytes next) status
 
 -- the link's input is specified and in order, and no call of the link failed
 pub record IsOrderlyLink (o o' : LinkSeen) : Type 0 where
@@ -129,17 +132,17 @@ module _ {R : Type 0} (given : List (List ℕ)) (before after : OutsideSeen R) w
   -- the link's input for `ask`, and where no call of the net failed for `serve`; `gen` needs nothing.
   pub data CallsFor (status : ℕ) : Type 0 where
     ByAsk : (names : AskNames) → AskFor given names → NoReadFailed before.files after.files
-        → AskLeads before.files names (λ next. IsOrderlyLink before.link after.link × (next ≡ 0)) status
+        → AskCallsFor before.files names (λ next. IsOrderlyLink before.link after.link × (next ≡ 0)) status
         → CallsFor status
     ByServe : (order : Order) → ServeFor given order → NoReadFailed before.files after.files
         → ¬ Rose before.net.faults after.net.faults
-        → AskLeads before.files order.files (λ next. next ≡ 0) status → CallsFor status
+        → AskCallsFor before.files order.files (λ next. next ≡ 0) status → CallsFor status
     ByCheck : (names : CheckNames) → CheckFor given names → NoReadFailed before.files after.files
-        → CheckLeads before.files names status → CallsFor status
+        → CheckCallsFor before.files names status → CallsFor status
     ByFollow : (name : List ℕ) → FollowFor given name → NoReadFailed before.files after.files
-        → LogLeads before.files name status → CallsFor status
+        → LogCallsFor before.files name status → CallsFor status
     ByVerify : (names : VerifyNames) → VerifyFor given names → NoReadFailed before.files after.files
-        → TranscriptLeads before.files names status → CallsFor status
+        → TranscriptCallsFor before.files names status → CallsFor status
     ByGen : (numbers : GenNumbers) → GenFor given numbers → status ≡ 0 → CallsFor status
 
 -- the run has this status, or memory ran out

@@ -48,28 +48,6 @@ read_more f f' f'' names source before asked =
     subst (λ (l : List (List ℕ)). HasAsked l f f'') (one_more names source)
     (asked_both (take (count_before source) (in_order names)) (name_of names source ∷ []) f f' f'' before asked)
 
--- a file that isn't read stops the run
-pub unread_stops : (f f' f'' : FilesSeen) (names : CheckNames) (source : Source) (stop : InputFault)
-    → HasAsked (take (count_before source) (in_order names)) f f' → Reached f names source →
-    IsUnread f' f'' (name_of names source) stop → StopsCheckAt f f'' names source stop
-unread_stops f f' f'' names source FileFailed before reached unread = (
-  reached,
-  subst (λ (l : List (List ℕ)). HasFailed l f f'') (one_more names source)
-      (failed_behind (take (count_before source) (in_order names)) (name_of names source ∷ []) f f' f'' before unread),
-)
-unread_stops f f' f'' names source FileTooLarge before reached unread = (
-  reached,
-  read_more f f' f'' names source before unread.0,
-  too_large_there f f' (name_of names source) (keeps_content (take (count_before source) (in_order names)) f f' before)
-      unread.1,
-)
-unread_stops f f' f'' names source Memory before reached unread =
-    (reached, inl (subst (HasAsked (take (count_before source) (in_order names)) f) (sym unread) before))
-unread_stops f f' f'' names source Words before reached unread = absurd unread
-unread_stops f f' f'' names source (S.Policy n fault) before reached unread = absurd unread
-unread_stops f f' f'' names source (Limit n word count) before reached unread = absurd unread
-unread_stops f f' f'' names source (KeyLine n) before reached unread = absurd unread
-
 -- and so does a policy that isn't loaded
 pub load_stops : (f f' : FilesSeen) (names : CheckNames) (bytes : List ℕ) (fault : LoadFault) (stop : InputFault)
     → stop ≡ input_fault_of fault → HasAsked (names.policy ∷ []) f f' →

@@ -10,15 +10,6 @@ use Rattle.kn_load.specs.declared.fault.LoadFault.{LoadFault}
 use Rattle.kn_load.specs.declared.fault.LoadFault.TheVariants.{Faulty, Full, NoMemory}
 use Rattle.kn_load.proofs.Alone.{looks_alone}
 
--- only running out of memory stops loading them
-pub only_memory : ((texts : List (List ℕ)) → LoadingEndsOnce texts) → (texts others : List (List ℕ)) → IsLoadable others
-    → texts ≡ others → (fault : LoadFault) → StopsLoading texts fault → fault ≡ NoMemory
-only_memory once texts others loadable same (Faulty n fault) stops =
-    absurd ((once texts).faulty n fault (subst IsLoadable (sym same) loadable) stops)
-only_memory once texts others loadable same (Full n refusal) stops =
-    absurd ((once texts).full n refusal (subst IsLoadable (sym same) loadable) stops)
-only_memory once texts others loadable same NoMemory stops = refl
-
 -- what the root then looks at is the history that adds them
 pub looks_loaded : (registry : TableId) (v w : PassSeen) (texts others : List (List ℕ)) → IsLoaded texts registry v
     → texts ≡ others → IsSoundPass w → Looks v w → w.seen ≡ loaded_history others

@@ -15,21 +15,6 @@ use Rattle.kn_inputs.specs.Stopping.{IsUnread}
 use Rattle.kn_commands.specs.Verifying.{StopsAtFile, IsTranscriptRead}
 use Rattle.kn_inputs.proofs.Files.{content_there, too_large_there, keeps_content, asked_both, failed_behind}
 
--- a file that isn't read stops the command, behind files that were
-pub unread_behind : (front : List (List ℕ)) (f mid f' : FilesSeen) (name : List ℕ) (stop : InputFault)
-    → HasAsked front f mid
-    → IsUnread mid f' name stop → StopsAtFile f f' front name stop
-unread_behind front f mid f' name FileFailed before unread = failed_behind front (name ∷ []) f mid f' before unread
-unread_behind front f mid f' name FileTooLarge before unread = (
-  asked_both front (name ∷ []) f mid f' before unread.0,
-  too_large_there f mid name (keeps_content front f mid before) unread.1,
-)
-unread_behind front f mid f' name Memory before unread = subst (HasAsked front f) (sym unread) before
-unread_behind front f mid f' name Words before unread = absurd unread
-unread_behind front f mid f' name (Policy n fault) before unread = absurd unread
-unread_behind front f mid f' name (Limit n word count) before unread = absurd unread
-unread_behind front f mid f' name (KeyLine n) before unread = absurd unread
-
 -- all three files were read
 pub transcript_read : (f mid last f' : FilesSeen) (names : VerifyNames) (bytes script replies : List ℕ)
     (Is : List Update → List ℕ → List ℕ → Type 0) → IsPolicy f names.policy bytes → HasAsked (names.policy ∷ []) f mid

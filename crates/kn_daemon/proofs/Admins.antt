@@ -17,10 +17,10 @@ use Rattle.kn_reply.specs.declared.refusal.Refusal.{Refusal}
 use Rattle.kn_reply.specs.declared.refusal.Refusal.TheVariants as R
 use Rattle.kn_reply.specs.declared.refusal.ItemRefusal.{ItemRefusal}
 use Rattle.kn_reply.specs.Replies.{Reply, Added, Batched, No, NoMemory}
-use Rattle.kn_daemon.specs.Shapes.{AddText, ApplyBlock, Look, ForNew, ForOpen, ForRetained, ForStanding, ForLog}
+use Rattle.kn_daemon.specs.Shapes.{AddText, ApplyBlock, Look, ForOpen, ForPin, ForPinAt, ForNews, ForLog}
 use Rattle.kn_daemon.specs.Shapes.{Question, WithProof, WithCritical, ToKeep, ShowSecret, Leave, Shape, Calls, Updates}
 use Rattle.kn_daemon.specs.Shapes.{Looks, Asks, Controls, AtFault}
-use Rattle.kn_daemon.specs.Daemon.{DaemonConfig, State, refuse_if, is_secret, refusal_of_reading, refusal_of_verdict}
+use Rattle.kn_daemon.specs.Daemon.{DaemonConfig, State, refuse_if, is_secret, refusal_at_reading, refusal_at_verdict}
 use Rattle.kn_daemon.specs.Daemon.{item_refusal, found_item, refusal_from, refusal_of_block, refusal_of_update}
 use Rattle.kn_daemon.specs.Daemon.{own_refusal, pinned_to, state_after_look, state_keeping, state_after_question, Does}
 use Rattle.kn_daemon.specs.Daemon.{Permits}
@@ -41,14 +41,14 @@ others-refused g state update n none = (
 
 looked-admin : (past : List Update) (state : State) (look : Look)
     → (state_after_look past state look).is_admin ≡ state.is_admin
-looked-admin past state ForNew = refl
-looked-admin past state (ForOpen s) = refl
-looked-admin past state (ForRetained s version) = by (retained_version past version)
+looked-admin past state ForOpen = refl
+looked-admin past state (ForPin s) = refl
+looked-admin past state (ForPinAt s version) = by (retained_version past version)
   where
     by : (o : Option (List Update)) → (pinned_to state s o).is_admin ≡ state.is_admin
     by None = refl
     by (Some there) = refl
-looked-admin past state (ForStanding s) = refl
+looked-admin past state (ForNews s) = refl
 looked-admin past state (ForLog n) = refl
 
 questioned-admin : (state : State) (question : Question) (s : ℕ) (names : List ℕ)
@@ -118,7 +118,7 @@ admin-stays g caller past old shape reply new p before = stays g caller past old
 
 -- What is added is admitted.
 
-no-fault : (n : ℕ) → refusal_of_verdict n ≡ None → n ≡ 0
+no-fault : (n : ℕ) → refusal_at_verdict R.Auth n ≡ None → n ≡ 0
 no-fault n = by (n == 0) refl
   where
     by : (b : Bool) → (n == 0) ≡ b → cond (not b) (Some (R.Auth n)) None ≡ None → n ≡ 0
@@ -132,11 +132,11 @@ behind-admin false next e = e
 
 pub added-admitted : AddedIsAdmitted
 added-admitted g caller past old text k version new assertion p reads =
-    let admits : Assertion → Option Refusal = λ a. refusal_of_verdict (g.verdict text a) in
-    let none : refusal_of_reading (reading_of text) admits ≡ None =
+    let admits : Assertion → Option Refusal = λ a. refusal_at_verdict R.Auth (g.verdict text a) in
+    let none : refusal_at_reading R.Read (reading_of text) admits ≡ None =
     behind-admin (not old.is_admin) (refusal_of_update g (AddText text)) p.accepted in
     no-fault (g.verdict text assertion)
-    (sym (ap (λ r. refusal_of_reading r admits) (by_assertion (reading_of text) assertion reads)) ∙ none)
+    (sym (ap (λ r. refusal_at_reading R.Read r admits) (by_assertion (reading_of text) assertion reads)) ∙ none)
 
 each-admitted : (g : DaemonConfig) (n : ℕ) (items : List BatchItem) → refusal_from g n items ≡ None
     → AllByRecursion (λ item. item_refusal g item ≡ None) items

@@ -17,7 +17,7 @@ use Rattle.kn_daemon.specs.Played.{after_request, played}
 use Rattle.kn_session.specs.Sessions.{Session, started_session}
 use Rattle.kn_session.specs.Calls.{Call, add_requester, is_named, after_call}
 use Rattle.kn_session.specs.Calls as C
-use Rattle.kn_daemon.specs.Shapes.{Look, ForNew, ForOpen, ForRetained, ForStanding, ForLog, Question, WithProof}
+use Rattle.kn_daemon.specs.Shapes.{Look, ForOpen, ForPin, ForPinAt, ForNews, ForLog, Question, WithProof}
 use Rattle.kn_daemon.specs.Shapes.{WithCritical, ToKeep, Control, ShowSecret, Leave, Shape, Calls, Looks, Asks}
 use Rattle.kn_daemon.specs.Shapes.{Controls, shape_of}
 use Rattle.kn_daemon.specs.Linearized.{Exchange, Along}
@@ -80,19 +80,19 @@ made-called n s call xs h = made-map (λ x. x.number == s) _ n (λ x. omega arit
 
 few-looked : (n : ℕ) (past : List Update) (state : State) (look : Look) → AreFew n state
     → AreFew (n + 1) (state_after_look past state look)
-few-looked n past state ForNew few =
+few-looked n past state ForOpen few =
     let s = few.started in
     record {
       started = omega (arith, s);
       made = made-push n state.sessions (started_session (state.started + 1) past) few.made (omega arith);
     }
-few-looked n past state (ForOpen s) few = few-with n state s _ (λ x. omega arith) few
-few-looked n past state (ForRetained s version) few = by (retained_version past version)
+few-looked n past state (ForPin s) few = few-with n state s _ (λ x. omega arith) few
+few-looked n past state (ForPinAt s version) few = by (retained_version past version)
   where
     by : (state_keeping : Option (List Update)) → AreFew (n + 1) (pinned_to state s state_keeping)
     by None = few-more n state few
     by (Some state_keeping) = few-with n state s _ (λ x. omega arith) few
-few-looked n past state (ForStanding s) few = few-with n state s _ (λ x. omega arith) few
+few-looked n past state (ForNews s) few = few-with n state s _ (λ x. omega arith) few
 few-looked n past state (ForLog count) few = few-more n state few
 
 few-questioned : (n : ℕ) (state : State) (question : Question) (s : ℕ) (names : List ℕ) → AreFew n state

@@ -5,8 +5,8 @@ use Rattle.kn_history.specs.declared.update.Update.{Update}
 use Rattle.kn_wire.specs.declared.fault.WireFault.{WireFault}
 use Rattle.kn_reply.specs.declared.refusal.Refusal.{Refusal}
 use Rattle.kn_reply.specs.Replies.{Reply, No, NoMemory}
-use Rattle.kn_daemon.specs.Shapes.{Updating, AddText, DropId, ApplyBlock, Look, ForNew, ForOpen, ForRetained}
-use Rattle.kn_daemon.specs.Shapes.{ForStanding, ForLog, Shape, Calls, Updates, Looks, Asks, Controls, AtFault}
+use Rattle.kn_daemon.specs.Shapes.{Updating, AddText, DropId, ApplyBlock, Look, ForOpen, ForPin, ForPinAt}
+use Rattle.kn_daemon.specs.Shapes.{ForNews, ForLog, Shape, Calls, Updates, Looks, Asks, Controls, AtFault}
 use Rattle.kn_daemon.specs.Daemon.{DaemonConfig, State, own_refusal, placed_refusal, first_refusal, IsUpdated, IsLooked}
 use Rattle.kn_daemon.specs.Daemon.{Does}
 use Rattle.kn_daemon.specs.Daemon.{Permits}
@@ -28,10 +28,10 @@ updated-placed caller past (ApplyBlock block) reply a = ap (is_placed (Updates (
 -- and so does that of an accepted look
 looked-placed : (past : List Update) (old : State) (look : Look) (reply : Reply) → IsLooked past old look reply
     → is_placed (Looks look) reply ≡ true
-looked-placed past old ForNew reply a = ap (is_placed (Looks ForNew)) a
-looked-placed past old (ForOpen s) reply a = ap (is_placed (Looks (ForOpen s))) a
-looked-placed past old (ForRetained s version) reply a = ap (is_placed (Looks (ForRetained s version))) a.1
-looked-placed past old (ForStanding s) reply a = ap (is_placed (Looks (ForStanding s))) a.news.exact
+looked-placed past old ForOpen reply a = ap (is_placed (Looks ForOpen)) a
+looked-placed past old (ForPin s) reply a = ap (is_placed (Looks (ForPin s))) a
+looked-placed past old (ForPinAt s version) reply a = ap (is_placed (Looks (ForPinAt s version))) a.1
+looked-placed past old (ForNews s) reply a = ap (is_placed (Looks (ForNews s))) a.news.exact
 looked-placed past old (ForLog n) reply a = ap (is_placed (Looks (ForLog n))) a.1
 
 module _ (g : DaemonConfig) (caller : ℕ) (past other : List Update) (old : State) where

@@ -12,7 +12,7 @@ use Rattle.kn_meaning.specs.Equations.{Part, Equations, IsPolicyLevel}
 use Rattle.kn_history.specs.declared.update.Update.{Update}
 use Rattle.kn_session.specs.Sessions.{StandingQuery, Session, asker, query_with, watch_with, query_at, move_standing}
 use Rattle.kn_reply.specs.Replies.{Value, News, Critical}
-use Rattle.kn_daemon.specs.Shapes.{ForStanding, WithProof, WithCritical, ToKeep, Looks, Asks}
+use Rattle.kn_daemon.specs.Shapes.{ForNews, WithProof, WithCritical, ToKeep, Looks, Asks}
 use Rattle.kn_daemon.specs.Daemon.{DaemonConfig, State, session_of, asked_of, session_parts, equations_of, IsAnswer}
 use Rattle.kn_daemon.specs.Daemon.{IsNews}
 use Rattle.kn_daemon.specs.Daemon.{IsCriticalAnswer}
@@ -134,7 +134,7 @@ module _ (g : DaemonConfig) (caller : ℕ) (past : List Update) (old new after :
       → session_of old s ≡ Some session → values_of names ≡ Some values
       → move_standing past session ≡ watch_with values session
       → Permits g caller past old (Asks WithProof s names) (Value index name version rows) new
-      → Permits g caller past old (Looks (ForStanding s)) (News level text number) after
+      → Permits g caller past old (Looks (ForNews s)) (News level text number) after
       → (level ≡ index) × (text ≡ name) × (number ≡ version)
   news-tells_value session values level text number found named keeps p q =
       let a = p.answered in

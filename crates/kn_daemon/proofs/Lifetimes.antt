@@ -17,7 +17,7 @@ use Rattle.kn_reply.specs.declared.refusal.Refusal.{Refusal}
 use Rattle.kn_reply.specs.declared.refusal.Refusal.TheVariants as R
 use Rattle.kn_reply.specs.Replies.{Reply, Done, Started, No, NoMemory, Log, PinnedAt}
 use Rattle.kn_daemon.specs.declared.ended.Ended.{Ended}
-use Rattle.kn_daemon.specs.Shapes.{Look, ForNew, ForOpen, ForRetained, ForStanding, ForLog, Question, WithProof}
+use Rattle.kn_daemon.specs.Shapes.{Look, ForOpen, ForPin, ForPinAt, ForNews, ForLog, Question, WithProof}
 use Rattle.kn_daemon.specs.Shapes.{WithCritical, ToKeep, ShowSecret, Leave, Shape, Calls, Updates, Looks, Asks}
 use Rattle.kn_daemon.specs.Shapes.{Controls}
 use Rattle.kn_daemon.specs.Shapes.{AtFault}
@@ -41,14 +41,14 @@ open-new g caller past old s version new p =
 
 looked-started : (past : List Update) (state : State) (look : Look)
     → state.started ≤ (state_after_look past state look).started
-looked-started past state ForNew = omega arith
-looked-started past state (ForOpen s) = omega arith
-looked-started past state (ForRetained s version) = by (retained_version past version)
+looked-started past state ForOpen = omega arith
+looked-started past state (ForPin s) = omega arith
+looked-started past state (ForPinAt s version) = by (retained_version past version)
   where
     by : (o : Option (List Update)) → state.started ≤ (pinned_to state s o).started
     by None = omega arith
     by (Some there) = omega arith
-looked-started past state (ForStanding s) = omega arith
+looked-started past state (ForNews s) = omega arith
 looked-started past state (ForLog n) = omega arith
 
 questioned-started : (state : State) (question : Question) (s : ℕ) (names : List ℕ)
@@ -122,10 +122,10 @@ ahead n length refusal due = by (nat_lt length n) refl
     by false is e within = absurd (cc e)
 
 pub refused-look_not_told : RefusedLookIsNotReported
-refused-look_not_told past old ForNew refusal reply e a = absurd (cc e)
-refused-look_not_told past old (ForOpen s) refusal reply e a = absurd (cc e)
-refused-look_not_told past old (ForStanding s) refusal reply e a = absurd (cc e)
-refused-look_not_told past old (ForRetained s version) refusal reply e a =
+refused-look_not_told past old ForOpen refusal reply e a = absurd (cc e)
+refused-look_not_told past old (ForPin s) refusal reply e a = absurd (cc e)
+refused-look_not_told past old (ForNews s) refusal reply e a = absurd (cc e)
+refused-look_not_told past old (ForPinAt s version) refusal reply e a =
     not-retained (retained_version past version) refusal (R.Retained (length past)) e a.0
 refused-look_not_told past old (ForLog n) refusal reply e a =
     ahead n (length past) refusal (R.Ahead (length past)) e a.0

@@ -9,7 +9,7 @@ use Rattle.kn_history.specs.Retained.{is_retained, retained_version}
 use Rattle.kn_session.specs.Sessions.{Session, session_in, with_changed, fault_in, pin_at}
 use Rattle.kn_session.proofs.StandingQueries.{found_here}
 use Rattle.kn_reply.specs.Replies.{Number, PinnedAt}
-use Rattle.kn_daemon.specs.Shapes.{ForOpen, ForRetained, Looks}
+use Rattle.kn_daemon.specs.Shapes.{ForPin, ForPinAt, Looks}
 use Rattle.kn_daemon.specs.Daemon.{DaemonConfig, State, session_of, refusal_by, pinned_to, Permits}
 use Rattle.kn_daemon.specs.PermissionLaws.{PinIsReported, RetainedPinIsReported}
 

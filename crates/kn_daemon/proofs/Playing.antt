@@ -8,7 +8,7 @@ use Rattle.kn_wire.specs.Requests.{Request}
 use Rattle.kn_reply.specs.Replies.{Reply, No, NoMemory}
 use Rattle.kn_reply.specs.declared.refusal.Refusal.TheVariants as R
 use Rattle.kn_history.specs.Retained.{retained_version}
-use Rattle.kn_daemon.specs.Shapes.{Look, ForNew, ForOpen, ForRetained, ForStanding, ForLog, Shape, Updates, Looks}
+use Rattle.kn_daemon.specs.Shapes.{Look, ForOpen, ForPin, ForPinAt, ForNews, ForLog, Shape, Updates, Looks}
 use Rattle.kn_daemon.specs.Shapes.{shape_of}
 use Rattle.kn_daemon.specs.Daemon.{DaemonConfig, State, refuse_if, own_refusal, placed_refusal, placed_refusal_of_look}
 use Rattle.kn_daemon.specs.Daemon.{first_refusal, pinned_to, state_after_look, state_after, Does, Permits}
@@ -23,15 +23,15 @@ accepted g caller past old request reply new d =
 -- a look for which the history hasn't what is asked changes no state
 refused-look : (past : List Update) (old : State) (look : Look) (refusal : Refusal)
     → placed_refusal_of_look past look ≡ Some refusal → old ≡ state_after_look past old look
-refused-look past old ForNew refusal e = absurd (cc (e))
-refused-look past old (ForOpen s) refusal e = absurd (cc (e))
-refused-look past old (ForRetained s version) refusal e = by (retained_version past version) e
+refused-look past old ForOpen refusal e = absurd (cc (e))
+refused-look past old (ForPin s) refusal e = absurd (cc (e))
+refused-look past old (ForPinAt s version) refusal e = by (retained_version past version) e
   where
     by : (kept : Option (List Update)) → refuse_if (is_none kept) (R.Retained (length past)) None ≡ Some refusal
         → old ≡ pinned_to old s kept
     by None e = refl
     by (Some kept) e = absurd (cc (e))
-refused-look past old (ForStanding s) refusal e = absurd (cc (e))
+refused-look past old (ForNews s) refusal e = absurd (cc (e))
 refused-look past old (ForLog n) refusal e = refl
 
 -- a request that the history refuses changes no state

@@ -12,7 +12,7 @@ use Rattle.kn_session.specs.declared.fault.CallFault.{CallFault}
 use Rattle.kn_session.specs.declared.fault.CallFault.TheVariants as T
 use Rattle.kn_session.specs.Calls.{text_fault}
 use Rattle.kn_wire.specs.Items.{AddText}
-use Rattle.kn_daemon.specs.Daemon.{DaemonConfig, refusal_of_reading, refusal_at_reading, refusal_at_verdict}
+use Rattle.kn_daemon.specs.Daemon.{DaemonConfig, refusal_at_reading, refusal_at_verdict}
 use Rattle.kn_daemon.specs.Daemon.{item_refusal}
 
 by_fault : (r : Result Assertion ReadFault) (fault : ReadFault) → result_err r ≡ Some fault → r ≡ Err fault
@@ -25,14 +25,15 @@ by_assertion (Ok other) assertion e = cc
 by_assertion (Err fault) assertion e = cc
 
 pub fault-refuses : (text : List ℕ) (fault : ReadFault) (next : Assertion → Option Refusal) → fault_of text ≡ Some fault
-    → refusal_of_reading (reading_of text) next ≡ option_map (λ number. R.Read number (fault_place fault))
+    → refusal_at_reading R.Read (reading_of text) next ≡ option_map (λ number. R.Read number (fault_place fault))
     (fault_number fault)
-fault-refuses text fault next e = ap (λ r. refusal_of_reading r next) (by_fault (reading_of text) fault e)
+fault-refuses text fault next e = ap (λ r. refusal_at_reading R.Read r next) (by_fault (reading_of text) fault e)
 
 pub reading-goes_on : (text : List ℕ) (assertion : Assertion) (next : Assertion → Option Refusal)
     → assertion_of text ≡ Some assertion
-    → refusal_of_reading (reading_of text) next ≡ next assertion
-reading-goes_on text assertion next e = ap (λ r. refusal_of_reading r next) (by_assertion (reading_of text) assertion e)
+    → refusal_at_reading R.Read (reading_of text) next ≡ next assertion
+reading-goes_on text assertion next e =
+    ap (λ r. refusal_at_reading R.Read r next) (by_assertion (reading_of text) assertion e)
 
 pub fault-refuses_item : (g : DaemonConfig) (text : List ℕ) (fault : ReadFault) → fault_of text ≡ Some fault
     → item_refusal g (AddText text) ≡ option_map (λ number. I.Read number (fault_place fault)) (fault_number fault)

@@ -26,24 +26,18 @@ use Rattle.kn_reply.specs.declared.refusal.LimitWord.{LimitWord}
 use Rattle.kn_reply.specs.declared.refusal.LimitWord.TheVariants as W
 use Rattle.kn_reply.specs.Replies.{No}
 use Rattle.kn_reply.specs.Logs.{item_of}
-use Rattle.kn_daemon.specs.Shapes.{Updating, AddText, DropId, ApplyBlock, Look, ForNew, ForOpen, ForRetained}
-use Rattle.kn_daemon.specs.Shapes.{ForStanding, ForLog, Shape, Calls, Updates, Looks, Asks, Controls, AtFault}
+use Rattle.kn_daemon.specs.Shapes.{Updating, AddText, DropId, ApplyBlock, Look, ForOpen, ForPin, ForPinAt}
+use Rattle.kn_daemon.specs.Shapes.{ForNews, ForLog, Shape, Calls, Updates, Looks, Asks, Controls, AtFault}
 use Rattle.kn_daemon.specs.Daemon.{DaemonConfig, State, session_of, refuse_if, refusal_by, refusal_at_reading}
 use Rattle.kn_daemon.specs.Daemon.{refusal_at_verdict, refusal_at_store, item_refusal, found_item, refusal_from}
 use Rattle.kn_daemon.specs.Daemon.{refusal_of_block, refusal_of_update, refusal_of_look, refusal_of_store}
 use Rattle.kn_daemon.specs.Daemon.{refusal_of_item_fault, refusal_of_batch, own_refusal, placed_refusal_of_update}
 use Rattle.kn_daemon.specs.Daemon.{placed_refusal_of_look, placed_refusal}
-use Rattle.kn_daemon.specs.Linearized.{decider_of_item, decider_of, is_of_update, is_of_look, is_placed}
+use Rattle.kn_daemon.specs.Linearized.{refuses_update, refuses_look, is_placed}
 
--- the history refuses an item of an update, an update, or a look
-abbrev by_item : ItemRefusal → Bool
-by_item inner = is_of_update (decider_of_item inner)
-
-abbrev by_update : Refusal → Bool
-by_update refusal = is_of_update (decider_of refusal)
-
-abbrev by_look : Refusal → Bool
-by_look refusal = is_of_look (decider_of refusal)
+-- the history refuses the item of this number
+abbrev refuses_item : ℕ → ItemRefusal → Bool
+refuses_item number inner = refuses_update (R.Item number inner)
 
 -- of a refusal, if there is one, this is so
 abbrev Each : {X : Type 0} → (X → Bool) → Bool → Option X → Type 0
@@ -77,65 +71,70 @@ reading-each p t read auth at_read at_auth verdict (Err fault) = by (fault_numbe
     by None = tt
     by (Some n) = at_read n (fault_place fault)
 
-item-each : (g : DaemonConfig) (item : BatchItem) → Each by_item false (item_refusal g item)
-item-each g (B.AddText text) =
-    reading-each by_item false I.Read I.Auth (λ number place. refl) (λ number. refl) (g.verdict text) (reading_of text)
-item-each g (B.DropId k) = tt
+item-each : (g : DaemonConfig) (number : ℕ) (item : BatchItem) → Each (refuses_item number) false (item_refusal g item)
+item-each g number (B.AddText text) =
+    reading-each (refuses_item number) false I.Read I.Auth (λ fault place. refl) (λ fault. refl) (g.verdict text)
+    (reading_of text)
+item-each g number (B.DropId k) = tt
 
 items-each : (g : DaemonConfig) (number : ℕ) (items : List BatchItem)
-    → Each by_update false (refusal_from g number items)
+    → Each refuses_update false (refusal_from g number items)
 items-each g number [] = tt
-items-each g number (item ∷ items) = by (item_refusal g item) (item-each g item) (items-each g (number + 1) items)
+items-each g number (item ∷ items) = by (item_refusal g item) (item-each g number item)
+    (items-each g (number + 1) items)
   where
-    by : (o : Option ItemRefusal) → Each by_item false o → Each by_update false (refusal_from g (number + 1) items)
-        → Each by_update false (found_item number o (refusal_from g (number + 1) items))
+    by : (o : Option ItemRefusal) → Each (refuses_item number) false o
+        → Each refuses_update false (refusal_from g (number + 1) items)
+        → Each refuses_update false (found_item number o (refusal_from g (number + 1) items))
     by None h later = later
     by (Some inner) h later = h
 
-block-each : (g : DaemonConfig) (items : Result (List BatchItem) ℕ) → Each by_update false (refusal_of_block g items)
+block-each : (g : DaemonConfig) (items : Result (List BatchItem) ℕ)
+    → Each refuses_update false (refusal_of_block g items)
 block-each g (Ok items) = items-each g 1 items
 block-each g (Err number) = refl
 
-update-each : (g : DaemonConfig) (update : Updating) → Each by_update false (refusal_of_update g update)
+update-each : (g : DaemonConfig) (update : Updating) → Each refuses_update false (refusal_of_update g update)
 update-each g (AddText text) =
-    reading-each by_update false R.Read R.Auth (λ number place. refl) (λ number. refl) (g.verdict text)
+    reading-each refuses_update false R.Read R.Auth (λ number place. refl) (λ number. refl) (g.verdict text)
     (reading_of text)
 update-each g (DropId k) = tt
 update-each g (ApplyBlock block) = block-each g (items_of block)
 
 session-each : (s : ℕ) (session : Option Session) (fault : Session → Option SessionFault)
-    → ((x : Session) → Each by_look false (refusal_by (fault x)))
-    → Each by_look false (refusal_by (fault_in s session fault))
+    → ((x : Session) → Each refuses_look false (refusal_by (fault x)))
+    → Each refuses_look false (refusal_by (fault_in s session fault))
 session-each s None fault own = refl
 session-each s (Some session) fault own = own session
 
 -- there is no standing query, or nothing is refused
-standing-each : (x : Session) → Each by_look false (refusal_by (standing_fault x))
+standing-each : (x : Session) → Each refuses_look false (refusal_by (standing_fault x))
 standing-each x = by (is_none x.standing)
   where
-    by : (b : Bool) → Each by_look false (refusal_by (fault_if b F.Absent None))
+    by : (b : Bool) → Each refuses_look false (refusal_by (fault_if b F.Absent None))
     by true = refl
     by false = tt
 
-look-each : (state : State) (look : Look) → Each by_look false (refusal_of_look state look)
-look-each state ForNew = by (nat_le SESSIONS (length state.sessions))
+look-each : (state : State) (look : Look) → Each refuses_look false (refusal_of_look state look)
+look-each state ForOpen = by (nat_le SESSIONS (length state.sessions))
   where
-    by : (b : Bool) → Each by_look false (refusal_by (fault_if b (F.Sessions (length state.sessions)) None))
+    by : (b : Bool) → Each refuses_look false (refusal_by (fault_if b (F.Sessions (length state.sessions)) None))
     by true = refl
     by false = tt
-look-each state (ForOpen s) = session-each s (session_of state s) (λ x. None) (λ x. tt)
-look-each state (ForRetained s version) = session-each s (session_of state s) (λ x. None) (λ x. tt)
-look-each state (ForStanding s) = session-each s (session_of state s) standing_fault standing-each
-look-each state (ForLog n) = if-each by_look false (not state.is_admin) R.Admin None refl tt
+look-each state (ForPin s) = session-each s (session_of state s) (λ x. None) (λ x. tt)
+look-each state (ForPinAt s version) = session-each s (session_of state s) (λ x. None) (λ x. tt)
+look-each state (ForNews s) = session-each s (session_of state s) standing_fault standing-each
+look-each state (ForLog n) = if-each refuses_look false (not state.is_admin) R.Admin None refl tt
 
 pub own-unplaced : (g : DaemonConfig) (state : State) (shape : Shape) (refusal : Refusal)
     → own_refusal g state shape ≡ Some refusal → is_placed shape (No refusal) ≡ false
 own-unplaced g state (Calls s call) refusal e = refl
 own-unplaced g state (Updates update) refusal e =
-    the-one by_update false (own_refusal g state (Updates update)) refusal
-    (if-each by_update false (not state.is_admin) R.Admin (refusal_of_update g update) refl (update-each g update)) e
+    the-one refuses_update false (own_refusal g state (Updates update)) refusal
+    (if-each refuses_update false (not state.is_admin) R.Admin (refusal_of_update g update) refl (update-each g update))
+    e
 own-unplaced g state (Looks look) refusal e =
-    the-one by_look false (refusal_of_look state look) refusal (look-each state look) e
+    the-one refuses_look false (refusal_of_look state look) refusal (look-each state look) e
 own-unplaced g state (Asks question s names) refusal e = refl
 own-unplaced g state (Controls control) refusal e = refl
 own-unplaced g state (AtFault fault) refusal e = refl
@@ -153,50 +152,52 @@ store-each p unknown limit at_unknown at_limit (U.HistoryFull updates) = at_limi
 store-each p unknown limit at_unknown at_limit (U.LogFull bytes) = at_limit W.LogBytes bytes
 store-each p unknown limit at_unknown at_limit U.NoMemory = tt
 
-change-each : (fault : Option StoreFault) → Each by_update true (option_and_then refusal_of_store fault)
+change-each : (fault : Option StoreFault) → Each refuses_update true (option_and_then refusal_of_store fault)
 change-each None = tt
-change-each (Some fault) = store-each by_update R.Unknown R.Limit refl (λ word count. refl) fault
+change-each (Some fault) = store-each refuses_update R.Unknown R.Limit refl (λ word count. refl) fault
 
-fault-each : (number : ℕ) (fault : StoreFault) → Each by_update true (refusal_of_item_fault number fault)
+fault-each : (number : ℕ) (fault : StoreFault) → Each refuses_update true (refusal_of_item_fault number fault)
 fault-each number fault =
-    by (refusal_at_store I.Unknown I.Limit fault) (store-each by_item I.Unknown I.Limit refl (λ word count. refl) fault)
+    by (refusal_at_store I.Unknown I.Limit fault)
+    (store-each (refuses_item number) I.Unknown I.Limit refl (λ word count. refl) fault)
   where
-    by : (o : Option ItemRefusal) → Each by_item true o
-        → Each by_update true (option_map (λ inner. R.Item number inner) o)
+    by : (o : Option ItemRefusal) → Each (refuses_item number) true o
+        → Each refuses_update true (option_map (λ inner. R.Item number inner) o)
     by None h = tt
     by (Some inner) h = h
 
 batch-each : (past : List Update) (items : Result (List BatchItem) ℕ)
-    → Each by_update true (refusal_of_batch past items)
+    → Each refuses_update true (refusal_of_batch past items)
 batch-each past (Ok items) = by (refusal_of_items (all_changes past) (map item_of items))
   where
     by : (o : Option (ℕ × StoreFault))
-        → Each by_update true (option_and_then (λ found. refusal_of_item_fault found.0 found.1) o)
+        → Each refuses_update true (option_and_then (λ found. refusal_of_item_fault found.0 found.1) o)
     by None = tt
     by (Some found) = fault-each found.0 found.1
 batch-each past (Err number) = tt
 
 placed-update-each : (past : List Update) (update : Updating)
-    → Each by_update true (placed_refusal_of_update past update)
+    → Each refuses_update true (placed_refusal_of_update past update)
 placed-update-each past (AddText text) = change-each (refusal_of_text (all_changes past) text)
 placed-update-each past (DropId k) = change-each (refusal_of_id (all_changes past) k)
 placed-update-each past (ApplyBlock block) = batch-each past (items_of block)
 
-placed-look-each : (past : List Update) (look : Look) → Each by_look true (placed_refusal_of_look past look)
-placed-look-each past ForNew = tt
-placed-look-each past (ForOpen s) = tt
-placed-look-each past (ForStanding s) = tt
-placed-look-each past (ForRetained s version) =
-    if-each by_look true (is_none (retained_version past version)) (R.Retained (length past)) None refl tt
-placed-look-each past (ForLog n) = if-each by_look true (nat_lt (length past) n) (R.Ahead (length past)) None refl tt
+placed-look-each : (past : List Update) (look : Look) → Each refuses_look true (placed_refusal_of_look past look)
+placed-look-each past ForOpen = tt
+placed-look-each past (ForPin s) = tt
+placed-look-each past (ForNews s) = tt
+placed-look-each past (ForPinAt s version) =
+    if-each refuses_look true (is_none (retained_version past version)) (R.Retained (length past)) None refl tt
+placed-look-each past (ForLog n) =
+    if-each refuses_look true (nat_lt (length past) n) (R.Ahead (length past)) None refl tt
 
 pub history-placed : (past : List Update) (shape : Shape) (refusal : Refusal) → placed_refusal past shape ≡ Some refusal
     → is_placed shape (No refusal) ≡ true
 history-placed past (Calls s call) refusal e = absurd (cc (e))
 history-placed past (Updates update) refusal e =
-    the-one by_update true (placed_refusal_of_update past update) refusal (placed-update-each past update) e
+    the-one refuses_update true (placed_refusal_of_update past update) refusal (placed-update-each past update) e
 history-placed past (Looks look) refusal e =
-    the-one by_look true (placed_refusal_of_look past look) refusal (placed-look-each past look) e
+    the-one refuses_look true (placed_refusal_of_look past look) refusal (placed-look-each past look) e
 history-placed past (Asks question s names) refusal e = absurd (cc (e))
 history-placed past (Controls control) refusal e = absurd (cc (e))
 history-placed past (AtFault fault) refusal e = absurd (cc (e))

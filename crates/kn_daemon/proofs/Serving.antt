@@ -10,7 +10,7 @@ use Rattle.std.proofs.lemmas.List.Elements.{filter-append, filter_map-append}
 use Rattle.kn_wire.specs.declared.fault.WireFault.{WireFault}
 use Rattle.kn_wire.specs.declared.fault.WireFault.TheVariants as F
 use Rattle.kn_history.specs.declared.update.Update.{Update}
-use Rattle.kn_wire.specs.Requests.{Request, Content, BlockOf, HexOf, Plain, FaultOf, content_of, Bye, Faulty, Takes}
+use Rattle.kn_wire.specs.Requests.{Request, Bye, Faulty, Takes}
 use Rattle.kn_wire.specs.Requests.{first_of, is_newline}
 use Rattle.kn_reply.specs.Replies.{Reply, reply_text}
 use Rattle.kn_history.specs.History.{is_valid_history, own_updates}
@@ -20,10 +20,9 @@ use Rattle.kn_daemon.specs.Shapes.{shape_of}
 use Rattle.kn_daemon.specs.Daemon.{DaemonConfig, State, first_state, Permits}
 use Rattle.kn_daemon.specs.Linearized.{Exchange, Along, InOrder, IsBehind, StopsAt, update_of, update_by, requests_in}
 use Rattle.kn_daemon.specs.Linearized.{texts_in}
-use Rattle.kn_wire.specs.Feeding.{Held, Bytes, InLong, Shut, held_bytes, pushed, held_after, held_after_content}
+use Rattle.kn_wire.specs.Feeding.{Held, Bytes, InLong, Shut, held_bytes, pushed, held_after}
 use Rattle.kn_wire.specs.Feeding.{held_after_fault, next_of, is_shut}
-use Rattle.kn_daemon.specs.Served.{IsDrained, IsCut, IsWritten, HasEnd, IsServed, is_bye, is_block, is_block_content}
-use Rattle.kn_daemon.specs.Served.{is_block_fault}
+use Rattle.kn_daemon.specs.Served.{IsDrained, IsCut, IsWritten, HasEnd, IsServed, is_bye, is_block}
 use Rattle.kn_daemon.specs.Underway.{IsUnderway, IsReplied}
 use Rattle.kn_daemon.specs.Laws.{HasNoRequest}
 use Rattle.kn_wire.proofs.Growing.{no_request, same_first, next-grows, pushed-pushed, pushed-nothing, pushed-not_shut}
@@ -50,24 +49,19 @@ one-of (Some update) = refl
 -- after a request that goes on, more can be taken
 not_shut-after : (text : List ℕ) (request : Request) (left : List ℕ) → is_block request ≡ false
     → is_shut (held_after text request left) ≡ false
-not_shut-after text request left h = by_content (content_of request) h
+not_shut-after text (Faulty fault) left h = by_fault fault h
   where
     by_line : (t : Bool) → is_shut (cond t (Bytes left) InLong) ≡ false
     by_line true = refl
     by_line false = refl
 
-    by_fault : (fault : WireFault) → is_block_fault fault ≡ false → is_shut (held_after_fault text fault left) ≡ false
+    by_fault : (fault : WireFault) → is_block (Faulty fault) ≡ false
+        → is_shut (held_after_fault text fault left) ≡ false
     by_fault F.Syntax h = refl
     by_fault F.Command h = refl
     by_fault F.Long h = by_line (list_any is_newline text)
     by_fault (F.Block n) h = cc
-
-    by_content : (content : Content) → is_block_content content ≡ false
-        → is_shut (held_after_content text content left) ≡ false
-    by_content (BlockOf block) h = refl
-    by_content (HexOf digits) h = refl
-    by_content Plain h = refl
-    by_content (FaultOf fault) h = by_fault fault h
+not_shut-after text request left h = refl
 
 pub next-not_shut : (held after : Held) (request : Request) → is_shut held ≡ false → is_block request ≡ false
     → next_of held ≡ Some (request, after) → is_shut after ≡ false

@@ -13,7 +13,7 @@ use Rattle.kn_session.specs.Laws.{standing_in}
 use Rattle.kn_session.proofs.StandingQueries.{found_here, found_other, calls_keep_standing, others_keep_standing}
 use Rattle.kn_session.proofs.StandingQueries.{pins_keep_standing, moves_version_alone}
 use Rattle.kn_reply.specs.Replies.{Reply, News, No, NoMemory}
-use Rattle.kn_daemon.specs.Shapes.{Look, ForNew, ForOpen, ForRetained, ForStanding, ForLog, Question, WithProof}
+use Rattle.kn_daemon.specs.Shapes.{Look, ForOpen, ForPin, ForPinAt, ForNews, ForLog, Question, WithProof}
 use Rattle.kn_daemon.specs.Shapes.{WithCritical, ToKeep, Control, ShowSecret, Leave, Shape, Calls, Updates, Looks, Asks}
 use Rattle.kn_daemon.specs.Shapes.{Controls, AtFault}
 use Rattle.kn_daemon.specs.Daemon.{DaemonConfig, State, session_of, pinned_to, state_after_look, state_keeping}
@@ -52,19 +52,19 @@ standing-called s t C.Unwatch no_close no_end xs =
     others_keep_standing xs t s C.Unwatch (λ e. no_end (ap (λ k. Calls k C.Unwatch) e))
 standing-called s t call no_close no_end xs = calls_keep_standing xs t s call (λ e. cc e) (λ e. cc e)
 
-standing-looked : (past : List Update) (state : State) (look : Look) (t : ℕ) → Looks look ≢ Looks (ForStanding t)
+standing-looked : (past : List Update) (state : State) (look : Look) (t : ℕ) → Looks look ≢ Looks (ForNews t)
     → standing_of (state_after_look past state look) t ≡ standing_of state t
-standing-looked past state ForNew t other =
+standing-looked past state ForOpen t other =
     standing-started t state.sessions (started_session (state.started + 1) past) refl
-standing-looked past state (ForOpen s) t other = pins_keep_standing state.sessions t s past
-standing-looked past state (ForRetained s version) t other = by (retained_version past version)
+standing-looked past state (ForPin s) t other = pins_keep_standing state.sessions t s past
+standing-looked past state (ForPinAt s version) t other = by (retained_version past version)
   where
     by : (o : Option (List Update)) → standing_of (pinned_to state s o) t ≡ standing_of state t
     by None = refl
     by (Some there) = pins_keep_standing state.sessions t s there
-standing-looked past state (ForStanding s) t other =
+standing-looked past state (ForNews s) t other =
     standing-other (move_standing past) (λ x. refl) state.sessions s t
-    (λ e. other (ap (λ k. Looks (ForStanding k)) e))
+    (λ e. other (ap (λ k. Looks (ForNews k)) e))
 standing-looked past state (ForLog n) t other = refl
 
 standing-questioned : (state : State) (question : Question) (s : ℕ) (names : List ℕ) (t : ℕ)
@@ -87,7 +87,7 @@ standing-controlled state Leave t = refl
 
 module _ (g : DaemonConfig) (caller : ℕ) (past : List Update) (old : State) where
   standing-changed : (shape : Shape) (t : ℕ) → shape ≢ Calls t C.Close → shape ≢ Calls t C.Unwatch
-      → ((names : List ℕ) → shape ≢ Asks ToKeep t names) → shape ≢ Looks (ForStanding t)
+      → ((names : List ℕ) → shape ≢ Asks ToKeep t names) → shape ≢ Looks (ForNews t)
       → standing_of (state_after past old shape) t ≡ standing_of old t
   standing-changed (Calls s call) t no_close no_end no_watch no_news =
       standing-called s t call no_close no_end old.sessions
@@ -100,7 +100,7 @@ module _ (g : DaemonConfig) (caller : ℕ) (past : List Update) (old : State) wh
 
   pub standing-stays : (shape : Shape) (reply : Reply) (new : State) (t : ℕ)
       → Permits g caller past old shape reply new → shape ≢ Calls t C.Close → shape ≢ Calls t C.Unwatch
-      → ((names : List ℕ) → shape ≢ Asks ToKeep t names) → shape ≢ Looks (ForStanding t)
+      → ((names : List ℕ) → shape ≢ Asks ToKeep t names) → shape ≢ Looks (ForNews t)
       → standing_of new t ≡ standing_of old t
   standing-stays shape (No refusal) new t p no_close no_end no_watch no_news = ap (λ state. standing_of state t) p.1
   standing-stays shape NoMemory new t p no_close no_end no_watch no_news = ap (λ state. standing_of state t) p.1
@@ -112,7 +112,7 @@ module _ (g : DaemonConfig) (caller : ℕ) (past : List Update) (old : State) wh
 
   -- NEWS moves the standing query to the version of its place, and tells it there
   pub news-of_place : (s index : ℕ) (name : List ℕ) (version : ℕ) (new : State)
-      → Permits g caller past old (Looks (ForStanding s)) (News index name version) new
+      → Permits g caller past old (Looks (ForNews s)) (News index name version) new
       → (version ≡ length past) × (standing_of new s ≡ option_map (query_at past) (standing_of old s))
       × IsSomeAnd (standing_of new s) (λ query. IsNews query (News index name version))
   news-of_place s index name version new p =

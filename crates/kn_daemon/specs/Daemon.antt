@@ -48,8 +48,8 @@ use Rattle.kn_reply.specs.declared.refusal.ItemRefusal.TheVariants as I
 use Rattle.kn_reply.specs.declared.refusal.LimitWord.{LimitWord}
 use Rattle.kn_reply.specs.declared.refusal.LimitWord.TheVariants as W
 use Rattle.kn_reply.specs.Logs.{item_of}
-use Rattle.kn_daemon.specs.Shapes.{Updating, AddText, DropId, ApplyBlock, Look, ForNew, ForOpen, ForRetained}
-use Rattle.kn_daemon.specs.Shapes.{ForStanding, ForLog, Question, WithProof, WithCritical, ToKeep, Control, ShowSecret}
+use Rattle.kn_daemon.specs.Shapes.{Updating, AddText, DropId, ApplyBlock, Look, ForOpen, ForPin, ForPinAt}
+use Rattle.kn_daemon.specs.Shapes.{ForNews, ForLog, Question, WithProof, WithCritical, ToKeep, Control, ShowSecret}
 use Rattle.kn_daemon.specs.Shapes.{Leave, Shape, Calls, Updates, Looks, Asks, Controls, AtFault}
 use Rattle.kn_reply.specs.Replies.{Reply, Done, Started, Number, PrivateAdded, Added, Value, Batched, PinnedAt, Log}
 use Rattle.kn_reply.specs.Replies.{News, Critical, No, NoMemory}
@@ -129,18 +129,12 @@ abbrev pub refusal_at_reading : {X : Type 0} → (ℕ → ℕ → X) → Result 
 refusal_at_reading told (Ok assertion) next = next assertion
 refusal_at_reading told (Err fault) next = refusal_at_text told fault
 
-abbrev pub refusal_of_reading : Result Assertion ReadFault → (Assertion → Option Refusal) → Option Refusal
-refusal_of_reading reading next = refusal_at_reading R.Read reading next
-
 abbrev pub is_secret : List ℕ → List ℕ → Bool
 is_secret secret bytes = nat_lt 0 (length secret) && bytes_eq secret bytes
 
 -- what the authenticator's number refuses, however it is reported
 abbrev pub refusal_at_verdict : {X : Type 0} → (ℕ → X) → ℕ → Option X
 refusal_at_verdict told number = if not (number == 0) then Some (told number) else None
-
-abbrev pub refusal_of_verdict : ℕ → Option Refusal
-refusal_of_verdict number = refusal_at_verdict R.Auth number
 
 -- why an item of a batch isn't admitted: its text has a fault, or the authenticator has one
 abbrev pub item_refusal : DaemonConfig → BatchItem → Option ItemRefusal
@@ -170,16 +164,17 @@ refusal_of_call (T.Text fault) = refusal_of_text fault
 refusal_of_call (T.Session fault) = refusal_of_session fault
 
 abbrev pub refusal_of_update : DaemonConfig → Updating → Option Refusal
-refusal_of_update g (AddText text) = refusal_of_reading (reading_of text) (λ a. refusal_of_verdict (g.verdict text a))
+refusal_of_update g (AddText text) =
+    refusal_at_reading R.Read (reading_of text) (λ a. refusal_at_verdict R.Auth (g.verdict text a))
 refusal_of_update g (DropId k) = None
 refusal_of_update g (ApplyBlock block) = refusal_of_block g (items_of block)
 
 -- the updates themselves are shown to an administrator alone
 abbrev pub refusal_of_look : State → Look → Option Refusal
-refusal_of_look state ForNew = refusal_by (start_fault state.sessions)
-refusal_of_look state (ForOpen s) = session_refusal state s (λ x. None)
-refusal_of_look state (ForRetained s version) = session_refusal state s (λ x. None)
-refusal_of_look state (ForStanding s) = session_refusal state s standing_fault
+refusal_of_look state ForOpen = refusal_by (start_fault state.sessions)
+refusal_of_look state (ForPin s) = session_refusal state s (λ x. None)
+refusal_of_look state (ForPinAt s version) = session_refusal state s (λ x. None)
+refusal_of_look state (ForNews s) = session_refusal state s standing_fault
 refusal_of_look state (ForLog n) = refuse_if (not state.is_admin) R.Admin None
 
 abbrev pub refusal_of_control : DaemonConfig → Control → Option Refusal
@@ -191,9 +186,8 @@ refusal_of_nodes nodes = refuse_if (nat_lt CRITICAL_NODES nodes) (R.Limit W.Node
 
 -- More nodes than the critical assertions of a query are looked for in are refused: the number of nodes is named.
 abbrev pub refusal_of_question : Question → Session → List (List ℕ) → Option Refusal
-refusal_of_question WithProof session values = None
 refusal_of_question WithCritical session values = refusal_of_nodes (equation_nodes (equations_of session values))
-refusal_of_question ToKeep session values = None
+refusal_of_question question session values = None
 
 -- names that are no compliance values are refused before all else
 abbrev pub refusal_of_names : Option (List (List ℕ)) → (List (List ℕ) → Option Refusal) → Option Refusal
@@ -244,20 +238,15 @@ placed_refusal_of_update past (ApplyBlock block) = refusal_of_batch past (items_
 
 -- a version isn't retained, or there are fewer updates than that: the newest version is named
 abbrev pub placed_refusal_of_look : List Update → Look → Option Refusal
-placed_refusal_of_look past ForNew = None
-placed_refusal_of_look past (ForOpen s) = None
-placed_refusal_of_look past (ForStanding s) = None
-placed_refusal_of_look past (ForRetained s version) =
+placed_refusal_of_look past (ForPinAt s version) =
     refuse_if (is_none (retained_version past version)) (R.Retained (length past)) None
 placed_refusal_of_look past (ForLog n) = refuse_if (nat_lt (length past) n) (R.Ahead (length past)) None
+placed_refusal_of_look past look = None
 
 abbrev pub placed_refusal : List Update → Shape → Option Refusal
-placed_refusal past (Calls s call) = None
 placed_refusal past (Updates update) = placed_refusal_of_update past update
 placed_refusal past (Looks look) = placed_refusal_of_look past look
-placed_refusal past (Asks question s names) = None
-placed_refusal past (Controls control) = None
-placed_refusal past (AtFault fault) = None
+placed_refusal past shape = None
 
 -- the first refusal that applies: those by the history come after all others
 abbrev pub first_refusal : DaemonConfig → List Update → State → Shape → Option Refusal
@@ -271,13 +260,13 @@ pinned_to state s None = state
 pinned_to state s (Some version) = with_session state s (pin_at version)
 
 abbrev pub state_after_look : List Update → State → Look → State
-state_after_look past state ForNew = record state {
+state_after_look past state ForOpen = record state {
   started = state.started + 1;
   sessions = with_started state.started state.sessions past;
 }
-state_after_look past state (ForOpen s) = with_session state s (pin_at past)
-state_after_look past state (ForRetained s version) = pinned_to state s (retained_version past version)
-state_after_look past state (ForStanding s) = with_session state s (move_standing past)
+state_after_look past state (ForPin s) = with_session state s (pin_at past)
+state_after_look past state (ForPinAt s version) = pinned_to state s (retained_version past version)
+state_after_look past state (ForNews s) = with_session state s (move_standing past)
 state_after_look past state (ForLog n) = state
 
 -- a question that names compliance values is kept as the session's standing query
@@ -286,9 +275,8 @@ state_keeping state s None = state
 state_keeping state s (Some values) = with_session state s (watch_with values)
 
 abbrev pub state_after_question : State → Question → ℕ → List ℕ → State
-state_after_question state WithProof s names = state
-state_after_question state WithCritical s names = state
 state_after_question state ToKeep s names = state_keeping state s (values_of names)
+state_after_question state question s names = state
 
 abbrev pub state_after_control : State → Control → State
 state_after_control state (ShowSecret bytes) = record state { is_admin = true }
@@ -297,11 +285,10 @@ state_after_control state Leave = state
 -- what an accepted request after this history makes of the state
 abbrev pub state_after : List Update → State → Shape → State
 state_after past state (Calls s call) = record state { sessions = after_call state.sessions s call }
-state_after past state (Updates update) = state
 state_after past state (Looks look) = state_after_look past state look
 state_after past state (Asks question s names) = state_after_question state question s names
 state_after past state (Controls control) = state_after_control state control
-state_after past state (AtFault fault) = state
+state_after past state shape = state
 
 -- Answers.
 
@@ -381,11 +368,11 @@ IsUpdated caller past (ApplyBlock block) reply =
 
 -- The reply to an accepted look. The version asked for is retained; LOG's n is no more than the number of updates.
 abbrev pub IsLooked : List Update → State → Look → Reply → Type 0
-IsLooked past old ForNew reply = reply ≡ Started (old.started + 1) (length past)
-IsLooked past old (ForOpen s) reply = reply ≡ Number (length past)
-IsLooked past old (ForRetained s version) reply =
+IsLooked past old ForOpen reply = reply ≡ Started (old.started + 1) (length past)
+IsLooked past old (ForPin s) reply = reply ≡ Number (length past)
+IsLooked past old (ForPinAt s version) reply =
     IsSome (retained_version past version) × (reply ≡ PinnedAt version (length past))
-IsLooked past old (ForStanding s) reply = IsStandingAnswered past old s reply
+IsLooked past old (ForNews s) reply = IsStandingAnswered past old s reply
 IsLooked past old (ForLog n) reply = (n ≤ length past) × (reply ≡ Log n past)
 
 -- what an accepted request of this caller gives after this history
@@ -409,11 +396,9 @@ pub record Does (g : DaemonConfig) (caller : ℕ) (past : List Update) (old : St
 -- the requests to which `NoMemory` may be the reply; then nothing has changed
 abbrev pub may_lack_memory : Shape → Bool
 may_lack_memory (Calls s call) = call_may_lack_memory call
-may_lack_memory (Updates update) = true
-may_lack_memory (Looks look) = true
-may_lack_memory (Asks question s names) = true
 may_lack_memory (Controls control) = false
 may_lack_memory (AtFault fault) = false
+may_lack_memory shape = true
 
 -- A daemon of one thread may give this reply to the caller's request of this shape after this history, and be in the
 -- state `new` then.

@@ -20,7 +20,7 @@ use Rattle.kn_daemon.specs.declared.ended.Ended.{Ended}
 use Rattle.kn_daemon.specs.declared.ended.Ended.TheVariants as E
 use Rattle.kn_daemon.specs.Shapes.{ForLog, Shape, Looks, shape_of}
 use Rattle.kn_daemon.specs.Daemon.{DaemonConfig, State, first_state, IsCommitted, Permits}
-use Rattle.kn_daemon.specs.Daemon.{refusal_of_reading, refusal_at_verdict, item_refusal, own_refusal, placed_refusal}
+use Rattle.kn_daemon.specs.Daemon.{refusal_at_reading, refusal_at_verdict, item_refusal, own_refusal, placed_refusal}
 use Rattle.kn_daemon.specs.Linearized.{Exchange, Along, requests_in, update_by, is_placed}
 use Rattle.kn_session.specs.declared.fault.CallFault.{CallFault}
 use Rattle.kn_session.specs.declared.fault.CallFault.TheVariants as T
@@ -167,14 +167,14 @@ ServedAlone = (g : DaemonConfig) (taken written : List ℕ) (ended : Ended) (is_
 -- a text with a fault is refused for it
 abbrev pub FaultRefuses : Type 0
 FaultRefuses = (text : List ℕ) (fault : ReadFault) (next : Assertion → Option Refusal) → fault_of text ≡ Some fault
-    → refusal_of_reading (reading_of text) next ≡ option_map (λ number. R.Read number (fault_place fault))
+    → refusal_at_reading R.Read (reading_of text) next ≡ option_map (λ number. R.Read number (fault_place fault))
     (fault_number fault)
 
 -- and one with a reading by what its assertion is refused for
 abbrev pub ReadingGoesOn : Type 0
 ReadingGoesOn = (text : List ℕ) (assertion : Assertion) (next : Assertion → Option Refusal)
     → assertion_of text ≡ Some assertion
-    → refusal_of_reading (reading_of text) next ≡ next assertion
+    → refusal_at_reading R.Read (reading_of text) next ≡ next assertion
 
 -- an item of a batch that adds a text with a fault is refused for it, and one with a reading by what the authenticator
 -- says

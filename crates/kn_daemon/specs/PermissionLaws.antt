@@ -14,7 +14,7 @@ use Rattle.kn_reply.specs.declared.refusal.Refusal.{Refusal}
 use Rattle.kn_reply.specs.declared.refusal.Refusal.TheVariants as R
 use Rattle.kn_reply.specs.Replies.{Reply, Done, Started, Number, Added, Batched, PinnedAt}
 use Rattle.kn_daemon.specs.declared.ended.Ended.{Ended}
-use Rattle.kn_daemon.specs.Shapes.{Updating, AddText, ApplyBlock, Look, ForNew, ForOpen, ForRetained, ForLog}
+use Rattle.kn_daemon.specs.Shapes.{Updating, AddText, ApplyBlock, Look, ForOpen, ForPin, ForPinAt, ForLog}
 use Rattle.kn_daemon.specs.Shapes.{ShowSecret, Shape, Calls, Updates, Looks, Controls}
 use Rattle.kn_daemon.specs.Daemon.{DaemonConfig, State, session_of, item_refusal, own_refusal, placed_refusal, IsLooked}
 use Rattle.kn_daemon.specs.Daemon.{Permits}
@@ -25,7 +25,7 @@ use Rattle.kn_daemon.specs.Served.{IsServed}
 -- the session changes.
 abbrev pub PinIsReported : Type 0
 PinIsReported = (g : DaemonConfig) (caller : ℕ) (past : List Update) (old : State) (s version : ℕ) (new : State)
-    → Permits g caller past old (Looks (ForOpen s)) (Number version) new
+    → Permits g caller past old (Looks (ForPin s)) (Number version) new
     → (version ≡ length past)
     × IsSomeAnd (session_of old s) (λ x. session_of new s ≡ Some (pin_at past x))
 
@@ -34,7 +34,7 @@ PinIsReported = (g : DaemonConfig) (caller : ℕ) (past : List Update) (old : St
 abbrev pub RetainedPinIsReported : Type 0
 RetainedPinIsReported = (g : DaemonConfig) (caller : ℕ) (past : List Update) (old : State) (s n version newest : ℕ)
     (new : State)
-    → Permits g caller past old (Looks (ForRetained s n)) (PinnedAt version newest) new
+    → Permits g caller past old (Looks (ForPinAt s n)) (PinnedAt version newest) new
     → (version ≡ n) × (newest ≡ length past) × (n ≤ length past)
     × IsSomeAnd (session_of old s) (λ x. session_of new s ≡ Some (pin_at (take n past) x))
 
@@ -73,7 +73,7 @@ BatchIsAdmitted = (g : DaemonConfig) (caller : ℕ) (past : List Update) (old : 
 -- OPEN gives the number behind all that were given.
 abbrev pub OpenIsNew : Type 0
 OpenIsNew = (g : DaemonConfig) (caller : ℕ) (past : List Update) (old : State) (s version : ℕ) (new : State)
-    → Permits g caller past old (Looks ForNew) (Started s version) new
+    → Permits g caller past old (Looks ForOpen) (Started s version) new
     → (s ≡ old.started + 1) × (new.started ≡ s) × (version ≡ length past)
 
 -- Their count never falls, so no number is given twice.

@@ -5,8 +5,8 @@ use Rattle.std.specs.Option.{option_map_or}
 use Rattle.kn_env.specs.Values.{values_of}
 use Rattle.kn_history.specs.declared.update.Update.{Update}
 use Rattle.kn_wire.specs.Requests.{Request}
-use Rattle.kn_daemon.specs.Shapes.{WithProof, WithCritical, ToKeep, Shape, Calls, Updates, Looks, Asks, Controls}
-use Rattle.kn_daemon.specs.Shapes.{AtFault, shape_of}
+use Rattle.kn_daemon.specs.Shapes.{WithProof, Shape, Asks}
+use Rattle.kn_daemon.specs.Shapes.{shape_of}
 use Rattle.kn_daemon.specs.Daemon.{DaemonConfig, State, first_state, session_of, own_refusal, state_after}
 use Rattle.kn_session.specs.Sessions.{Session}
 use Rattle.kn_daemon.specs.Served.{is_bye, is_block}
@@ -41,13 +41,7 @@ no_config = record { secret = []; verdict = λ text a. 1 }
 abbrev pub AsksOf : State → Shape → Session → List (List ℕ) → Type 0
 AsksOf state (Asks WithProof s names) session values =
     (session_of state s ≡ Some session) × (values_of names ≡ Some values)
-AsksOf state (Asks WithCritical s names) session values = ⊥
-AsksOf state (Asks ToKeep s names) session values = ⊥
-AsksOf state (Calls s call) session values = ⊥
-AsksOf state (Updates update) session values = ⊥
-AsksOf state (Looks look) session values = ⊥
-AsksOf state (Controls control) session values = ⊥
-AsksOf state (AtFault fault) session values = ⊥
+AsksOf state shape session values = ⊥
 
 -- the request is a QUERY that is answered with a value
 abbrev pub IsAsking : State → Request → Session → List (List ℕ) → Type 0

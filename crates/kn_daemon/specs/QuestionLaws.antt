@@ -13,7 +13,7 @@ use Rattle.kn_session.specs.Laws.{standing_in}
 use Rattle.kn_reply.specs.declared.refusal.Refusal.TheVariants as R
 use Rattle.kn_reply.specs.declared.refusal.LimitWord.TheVariants as W
 use Rattle.kn_reply.specs.Replies.{Reply, Value, News, Critical, No}
-use Rattle.kn_daemon.specs.Shapes.{ForStanding, Question, WithProof, WithCritical, ToKeep, Shape, Calls, Looks, Asks}
+use Rattle.kn_daemon.specs.Shapes.{ForNews, Question, WithProof, WithCritical, ToKeep, Shape, Calls, Looks, Asks}
 use Rattle.kn_daemon.specs.Daemon.{DaemonConfig, State, session_of, equations_of, own_refusal, IsNews, Permits}
 
 -- the standing query of the open session of this number, if it has one
@@ -25,7 +25,7 @@ standing_of state s = standing_in state.sessions s
 abbrev pub NewsIsOfPlace : Type 0
 NewsIsOfPlace = (g : DaemonConfig) (caller : ℕ) (past : List Update) (old : State) (s index : ℕ) (name : List ℕ)
     (version : ℕ) (new : State)
-    → Permits g caller past old (Looks (ForStanding s)) (News index name version) new
+    → Permits g caller past old (Looks (ForNews s)) (News index name version) new
     → (version ≡ length past) × (standing_of new s ≡ option_map (query_at past) (standing_of old s))
     × IsSomeAnd (standing_of new s) (λ query. IsNews query (News index name version))
 
@@ -44,7 +44,7 @@ StandingQueryStays = (g : DaemonConfig) (caller : ℕ) (past : List Update) (old
     (new : State) (s : ℕ)
     → Permits g caller past old shape reply new
     → shape ≢ Calls s C.Close → shape ≢ Calls s C.Unwatch → ((names : List ℕ) → shape ≢ Asks ToKeep s names)
-    → shape ≢ Looks (ForStanding s)
+    → shape ≢ Looks (ForNews s)
     → standing_of new s ≡ standing_of old s
 
 -- WATCH tells the level, its name and the version that QUERY tells in the same state
@@ -76,7 +76,7 @@ NewsTellsTheValue = (g : DaemonConfig) (caller : ℕ) (past : List Update) (old 
     → session_of old s ≡ Some session → values_of names ≡ Some values
     → move_standing past session ≡ watch_with values session
     → Permits g caller past old (Asks WithProof s names) (Value index name version rows) new
-    → Permits g caller past old (Looks (ForStanding s)) (News level text number) after
+    → Permits g caller past old (Looks (ForNews s)) (News level text number) after
     → (level ≡ index) × (text ≡ name) × (number ≡ version)
 
 -- and CRITICAL has one answer
@@ -108,7 +108,7 @@ abbrev pub ClosedIsRefused : Type 0
 ClosedIsRefused = (g : DaemonConfig) (state : State) (s : ℕ) (question : Question) (names : List ℕ)
     → session_of state s ≡ None
     → (own_refusal g state (Asks question s names) ≡ Some R.Session)
-    × (own_refusal g state (Looks (ForStanding s)) ≡ Some R.Session)
+    × (own_refusal g state (Looks (ForNews s)) ≡ Some R.Session)
     × (own_refusal g state (Calls s C.Unwatch) ≡ Some R.Session)
 
 -- Names that are no compliance values are refused next.
@@ -121,5 +121,5 @@ NamesAreRefused = (g : DaemonConfig) (state : State) (s : ℕ) (session : Sessio
 abbrev pub NoneStandingIsRefused : Type 0
 NoneStandingIsRefused = (g : DaemonConfig) (state : State) (s : ℕ) (session : Session)
     → session_of state s ≡ Some session
-    → (own_refusal g state (Looks (ForStanding s)) ≡ (if is_none session.standing then Some R.Unknown else None))
+    → (own_refusal g state (Looks (ForNews s)) ≡ (if is_none session.standing then Some R.Unknown else None))
     × (own_refusal g state (Calls s C.Unwatch) ≡ (if is_none session.standing then Some R.Unknown else None))

@@ -3,48 +3,28 @@ use Rattle.std.specs.Prelude.{ℕ, ◌≡◌, ◌≢◌, ◌-◌, ◌≤◌, ◌
 use Rattle.std.specs.Prelude.{flat_map, Some, None, ◌⊎◌}
 use Rattle.std.specs.List.{list_any, last_or}
 use Rattle.kn_base.specs.declared.limits.TheConstants.{REQUESTS}
-use Rattle.kn_wire.specs.declared.fault.WireFault.{WireFault}
 use Rattle.kn_wire.specs.declared.fault.WireFault.TheVariants as F
 use Rattle.kn_history.specs.declared.update.Update.{Update}
-use Rattle.kn_wire.specs.Requests.{Request, Content, BlockOf, HexOf, Plain, FaultOf, content_of, Bye, Faulty, Takes}
+use Rattle.kn_wire.specs.Requests.{Request, Bye, Faulty, Takes}
 use Rattle.kn_wire.specs.Requests.{first_of}
 use Rattle.kn_daemon.specs.declared.ended.Ended.{Ended}
 use Rattle.kn_daemon.specs.declared.ended.Ended.TheVariants as E
-use Rattle.kn_daemon.specs.Shapes.{Control, ShowSecret, Leave, Shape, Calls, Updates, Looks, Asks, Controls, AtFault}
+use Rattle.kn_daemon.specs.Shapes.{Leave, Shape, Controls}
 use Rattle.kn_daemon.specs.Shapes.{shape_of}
 use Rattle.kn_daemon.specs.Daemon.{DaemonConfig, State, first_state}
 use Rattle.kn_daemon.specs.Linearized.{Exchange, Along, IsLinearized, requests_in, texts_in}
 
-abbrev pub is_leave : Control → Bool
-is_leave (ShowSecret bytes) = false
-is_leave Leave = true
-
 abbrev pub is_bye_shape : Shape → Bool
-is_bye_shape (Calls s call) = false
-is_bye_shape (Updates update) = false
-is_bye_shape (Looks look) = false
-is_bye_shape (Asks question s names) = false
-is_bye_shape (Controls control) = is_leave control
-is_bye_shape (AtFault fault) = false
+is_bye_shape (Controls Leave) = true
+is_bye_shape shape = false
 
 abbrev pub is_bye : Request → Bool
 is_bye request = is_bye_shape (shape_of request)
 
-abbrev pub is_block_fault : WireFault → Bool
-is_block_fault F.Syntax = false
-is_block_fault F.Command = false
-is_block_fault F.Long = false
-is_block_fault (F.Block n) = true
-
-abbrev pub is_block_content : Content → Bool
-is_block_content (BlockOf block) = false
-is_block_content (HexOf digits) = false
-is_block_content Plain = false
-is_block_content (FaultOf fault) = is_block_fault fault
-
 -- a block that is refused
 abbrev pub is_block : Request → Bool
-is_block request = is_block_content (content_of request)
+is_block (Faulty (F.Block n)) = true
+is_block request = false
 
 -- of the texts, the last only in part
 pub record IsCut (written : List ℕ) (texts : List (List ℕ)) : Type 0 where

@@ -21,10 +21,10 @@ pub data Updating : Type 0 where
 -- A look at the history at the place of the request: its version for a new session, for an open one, or for the
 -- standing query of one; for an open session a retained version, by its number; or the updates behind the first n.
 pub data Look : Type 0 where
-  ForNew : Look
-  ForOpen : ℕ → Look
-  ForRetained : ℕ → ℕ → Look
-  ForStanding : ℕ → Look
+  ForOpen : Look
+  ForPin : ℕ → Look
+  ForPinAt : ℕ → ℕ → Look
+  ForNews : ℕ → Look
   ForLog : ℕ → Look
 
 -- How a question is answered: with rows that prove the level, with the critical assertions, or by the level alone, and
@@ -50,9 +50,9 @@ pub data Shape : Type 0 where
   AtFault : WireFault → Shape
 
 abbrev pub shape_of : Request → Shape
-shape_of Open = Looks ForNew
+shape_of Open = Looks ForOpen
 shape_of (Close s) = Calls s C.Close
-shape_of (Pin s) = Looks (ForOpen s)
+shape_of (Pin s) = Looks (ForPin s)
 shape_of (Assert s text) = Calls s (C.Assert text)
 shape_of (Retract s k) = Calls s (C.Retract k)
 shape_of (Set s name value) = Calls s (C.Set name value)
@@ -63,14 +63,14 @@ shape_of (Unauth s text) = Calls s (C.Unauth text)
 shape_of (Clear s) = Calls s C.Clear
 shape_of (Query s names) = Asks WithProof s names
 shape_of (Watch s names) = Asks ToKeep s names
-shape_of (News s) = Looks (ForStanding s)
+shape_of (News s) = Looks (ForNews s)
 shape_of (Unwatch s) = Calls s C.Unwatch
 shape_of (Critical s names) = Asks WithCritical s names
 shape_of (Admin digits) = Controls (ShowSecret (bytes_of_hex digits))
 shape_of (Add text) = Updates (AddText text)
 shape_of (Drop k) = Updates (DropId k)
 shape_of (Batch block) = Updates (ApplyBlock block)
-shape_of (PinAt s version) = Looks (ForRetained s version)
+shape_of (PinAt s version) = Looks (ForPinAt s version)
 shape_of (Log n) = Looks (ForLog n)
 shape_of Bye = Controls Leave
 shape_of (Faulty fault) = AtFault fault
@@ -78,15 +78,15 @@ shape_of (Faulty fault) = AtFault fault
 -- what a shape in code stands for
 abbrev pub shape_in_code : Asked → Shape
 shape_in_code (S.Call s call) = Calls s (call_of call)
-shape_in_code (S.SetDigits s name digits) = Calls s (C.Set name.now (bytes_of_hex digits.now))
-shape_in_code S.Open = Looks ForNew
-shape_in_code (S.Pin s) = Looks (ForOpen s)
+shape_in_code (S.SetHex s name digits) = Calls s (C.Set name.now (bytes_of_hex digits.now))
+shape_in_code S.Open = Looks ForOpen
+shape_in_code (S.Pin s) = Looks (ForPin s)
 shape_in_code (S.Add block) = Updates (AddText block.now)
 shape_in_code (S.Remove k) = Updates (DropId k)
 shape_in_code (S.Batch block) = Updates (ApplyBlock block.now)
-shape_in_code (S.PinAt s version) = Looks (ForRetained s version)
+shape_in_code (S.PinAt s version) = Looks (ForPinAt s version)
 shape_in_code (S.Log n) = Looks (ForLog n)
-shape_in_code (S.News s) = Looks (ForStanding s)
+shape_in_code (S.News s) = Looks (ForNews s)
 shape_in_code (S.Query s values) = Asks WithProof s values.now
 shape_in_code (S.Watch s values) = Asks ToKeep s values.now
 shape_in_code (S.Critical s values) = Asks WithCritical s values.now
@@ -97,7 +97,7 @@ shape_in_code S.Bye = Controls Leave
 -- no block is too long
 abbrev pub IsFormed : Asked → Type 0
 IsFormed (S.Call s call) = length (asserted (call_of call)) ≤ ASSERTION_BYTES
-IsFormed (S.SetDigits s name digits) = is_hex digits.now ≡ true
+IsFormed (S.SetHex s name digits) = is_hex digits.now ≡ true
 IsFormed S.Open = ⊤
 IsFormed (S.Pin s) = ⊤
 IsFormed (S.Add block) = length block.now ≤ ASSERTION_BYTES

@@ -17,7 +17,7 @@ pub enum Shape<'a> {
         call: Call<'a>,
     },
     /// The call that sets an attribute, whose value has yet to be decoded.
-    SetDigits {
+    SetHex {
         s: u32,
         name: &'a [u8],
         digits: &'a [u8],
@@ -102,7 +102,7 @@ pub fn shape_of(request: Request<'_>) -> Shape<'_>
             s,
             call: Call::Set { name, value },
         },
-        Request::SetHex { s, name, digits } => Shape::SetDigits { s, name, digits },
+        Request::SetHex { s, name, digits } => Shape::SetHex { s, name, digits },
         Request::Unset { s, name } => Shape::Call {
             s,
             call: Call::Unset { name },

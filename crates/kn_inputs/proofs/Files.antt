@@ -42,6 +42,3 @@ failed_behind a b f f' f'' first second =
           ∙ ap (λ (l : List (List ℕ)). record f { asked = l; faults = f''.faults }) (append_assoc f.asked a b);
       rose = subst (λ (count : ℕ). Rose count f''.faults) (ap (λ (x : FilesSeen). x.faults) first) second.rose;
     }
-
-pub asked_nothing : (f : FilesSeen) → HasAsked [] f f
-asked_nothing f = ap (λ (l : List (List ℕ)). record f { asked = l }) (sym (append-nil f.asked))

@@ -23,17 +23,6 @@ use Rattle.kn_inputs.specs.Inputs.{StopsAtPolicy, StopsAtKeys, AreKeysStopped}
 use Rattle.kn_inputs.proofs.Files.{content_there, too_large_there, keeps_content, asked_both, failed_behind}
 use Rattle.kn_inputs.proofs.Files.{asked_nothing}
 
--- a policy file that isn't read stops the command
-pub unread_policy : (f f' : FilesSeen) (name : List ℕ) (stop : InputFault) → IsUnread f f' name stop
-    → StopsAtPolicy f f' name stop
-unread_policy f f' name FileFailed unread = unread
-unread_policy f f' name FileTooLarge unread = unread
-unread_policy f f' name Memory unread = inl unread
-unread_policy f f' name Words unread = absurd unread
-unread_policy f f' name (Policy n fault) unread = absurd unread
-unread_policy f f' name (Limit n word count) unread = absurd unread
-unread_policy f f' name (KeyLine n) unread = absurd unread
-
 -- and so does one that isn't loaded
 pub unloaded_policy : (f f' : FilesSeen) (name bytes : List ℕ) (fault : LoadFault) (stop : InputFault)
     → stop ≡ input_fault_of fault
@@ -58,17 +47,6 @@ unloaded_policy f f' name bytes fault stop is asked has stops =
     by (L.Full n (F.Unknown id)) found = inr asked
     by (L.Full n F.NoMemory) found = inr asked
     by L.NoMemory found = inr asked
-
--- a key file that isn't read stops the command
-pub unread_keys : (f f' : FilesSeen) (name : List ℕ) (stop : InputFault) → IsUnread f f' name stop
-    → StopsAtKeys f f' [] name stop
-unread_keys f f' name FileFailed unread = unread
-unread_keys f f' name FileTooLarge unread = unread
-unread_keys f f' name Memory unread = inl (subst (HasAsked [] f) (sym unread) (asked_nothing f))
-unread_keys f f' name Words unread = absurd unread
-unread_keys f f' name (Policy n fault) unread = absurd unread
-unread_keys f f' name (Limit n word count) unread = absurd unread
-unread_keys f f' name (KeyLine n) unread = absurd unread
 
 -- the same, behind files that were read
 keys_behind : (front : List (List ℕ)) (f mid f' : FilesSeen) (name : List ℕ) (stop : InputFault) → HasAsked front f mid

@@ -1,4 +1,4 @@
 pub mod Alone
 pub mod Loaded
-pub mod DraftLaws
+pub mod ReadResultLaws
 pub mod ReadingLaws

@@ -22,7 +22,7 @@ use Rattle.kn_history.proofs.Loading.{loadable_nothing}
 use Rattle.kn_history.proofs.Valid.{loadable_is_valid}
 use Rattle.kn_registry.specs.Passes.{PassSeen, IsReady, IsSoundPass, AddsAll, IsOneRefused, RefusesOne}
 use Rattle.kn_turn.specs.Passes.{root_of}
-use Rattle.kn_load.specs.Drafting.{IsFaultyFor}
+use Rattle.kn_load.specs.Readings.{IsFaultyFor}
 use Rattle.kn_load.specs.Loaded.{IsLoaded, StopsLoading, refused_at}
 use Rattle.kn_load.specs.declared.fault.LoadFault.{LoadFault}
 use Rattle.kn_load.specs.declared.fault.LoadFault.TheVariants as L

@@ -9,48 +9,51 @@ use Rattle.kn_fields.specs.Numbers.{fault_number}
 use Rattle.kn_history.specs.declared.fault.StoreFault.{StoreFault}
 use Rattle.kn_history.specs.Loading.{IsLoadable}
 use Rattle.kn_registry.specs.Passes.{PassSeen, IsSoundPass, RefusesOne}
-use Rattle.kn_load.specs.declared.drafts.Draft.{Draft}
+use Rattle.kn_load.specs.declared.read_results.ReadResult.{ReadResult}
 use Rattle.kn_load.specs.declared.read_texts.ReadTexts.{ReadTexts}
 use Rattle.kn_load.specs.declared.fault.LoadFault.{LoadFault}
 use Rattle.kn_load.specs.declared.fault.LoadFault.TheVariants as L
-use Rattle.kn_load.specs.Drafting.{IsDraftOf, IsFirstFaulty, AreReadings}
+use Rattle.kn_load.specs.Readings.{IsReadResultOf, IsFirstFaulty, AreReadings}
 use Rattle.kn_load.specs.Loaded.{IsLoaded, StopsLoading, refused_at}
 use Rattle.kn_load.proofs.Loaded.{refusal_stops, fault_stops}
 
--- These drafts are left of those of some texts, and of the texts before them these are the readings.
-pub record AreLeft (texts : List (List ℕ)) (readings : ReadTexts) (drafts : List Draft) : Type 0 where
+-- These results are left of those of some texts, and of the texts before them these are the readings.
+pub record AreLeft (texts : List (List ℕ)) (readings : ReadTexts) (results : List ReadResult) : Type 0 where
   pub front : List (List ℕ)
   pub left : List (List ℕ)
   pub cut : texts ≡ front ++ left
   pub are : AreReadings front readings
-  pub drafts_are : AllZip IsDraftOf left drafts
+  pub results_are : AllZip IsReadResultOf left results
 
-pub all_left : (texts : List (List ℕ)) (readings : ReadTexts) (drafts : List Draft) → AreReadings [] readings
-    → AllZip IsDraftOf texts drafts → AreLeft texts readings drafts
-all_left texts readings drafts none all = record { front = []; left = texts; cut = refl; are = none; drafts_are = all }
+pub all_left : (texts : List (List ℕ)) (readings : ReadTexts) (results : List ReadResult) → AreReadings [] readings
+    → AllZip IsReadResultOf texts results → AreLeft texts readings results
+all_left texts readings results none all =
+    record { front = []; left = texts; cut = refl; are = none; results_are = all }
 
 pub none_left : (texts : List (List ℕ)) (readings : ReadTexts) → AreLeft texts readings [] → AreReadings texts readings
-none_left texts readings so_far = by so_far.left so_far.cut so_far.drafts_are
+none_left texts readings so_far = by so_far.left so_far.cut so_far.results_are
   where
-    by : (left : List (List ℕ)) → texts ≡ so_far.front ++ left → AllZip IsDraftOf left [] → AreReadings texts readings
+    by : (left : List (List ℕ)) → texts ≡ so_far.front ++ left → AllZip IsReadResultOf left []
+        → AreReadings texts readings
     by [] cut none = subst (λ (l : List (List ℕ)). AreReadings l readings) (sym (cut ∙ append-nil so_far.front))
         so_far.are
     by (text ∷ left) cut none = absurd none
 
--- the first of the drafts that are left is that of this text
-pub record IsNext (texts : List (List ℕ)) (readings : ReadTexts) (draft : Draft) (drafts : List Draft) : Type 0 where
+-- the first of the results that are left is that of this text
+pub record IsNext (texts : List (List ℕ)) (readings : ReadTexts) (found : ReadResult) (results : List ReadResult) :
+    Type 0 where
   pub front : List (List ℕ)
   pub text : List ℕ
   pub are : AreReadings front readings
-  pub of_text : IsDraftOf text draft
-  pub more : (longer : ReadTexts) → AreReadings (front ++ text ∷ []) longer → AreLeft texts longer drafts
+  pub of_text : IsReadResultOf text found
+  pub more : (longer : ReadTexts) → AreReadings (front ++ text ∷ []) longer → AreLeft texts longer results
 
-pub next_left : (texts : List (List ℕ)) (readings : ReadTexts) (draft : Draft) (drafts : List Draft)
-    → AreLeft texts readings (draft ∷ drafts) → IsNext texts readings draft drafts
-next_left texts readings draft drafts so_far = by so_far.left so_far.cut so_far.drafts_are
+pub next_left : (texts : List (List ℕ)) (readings : ReadTexts) (found : ReadResult) (results : List ReadResult)
+    → AreLeft texts readings (found ∷ results) → IsNext texts readings found results
+next_left texts readings found results so_far = by so_far.left so_far.cut so_far.results_are
   where
-    by : (left : List (List ℕ)) → texts ≡ so_far.front ++ left → AllZip IsDraftOf left (draft ∷ drafts)
-        → IsNext texts readings draft drafts
+    by : (left : List (List ℕ)) → texts ≡ so_far.front ++ left → AllZip IsReadResultOf left (found ∷ results)
+        → IsNext texts readings found results
     by [] cut none = absurd none
     by (text ∷ left) cut all = record {
       front = so_far.front;
@@ -63,7 +66,7 @@ next_left texts readings draft drafts so_far = by so_far.left so_far.cut so_far.
         cut = cut
             ∙ sym (append_assoc so_far.front (text ∷ []) left);
         are = are;
-        drafts_are = all.1;
+        results_are = all.1;
       };
     }
 

@@ -1,2 +1,2 @@
-pub mod Drafting
+pub mod Readings
 pub mod Loaded

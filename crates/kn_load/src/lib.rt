@@ -2,9 +2,9 @@
 //! is refused.
 #![tactic(auto)]
 
-mod drafts;
 mod fault;
 mod load;
+mod read_results;
 mod read_texts;
 
 pub use fault::LoadFault;

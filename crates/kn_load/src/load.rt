@@ -4,12 +4,12 @@ ghost use Rattle.std.specs.Prelude.{length, All, OnOk, IfOk, IfErr, MatchOption}
 ghost use Rattle.kn_fields.specs.Numbers.{fault_number};
 ghost use Rattle.kn_files.specs.Pieces.{pieces_of, spans_of, IsWithin};
 ghost use Rattle.kn_history.specs.declared.fault.StoreFault.TheVariants as S;
-ghost use Rattle.kn_load.specs.Drafting.{AreReadings};
+ghost use Rattle.kn_load.specs.Readings.{AreReadings};
 ghost use Rattle.kn_load.specs.Loaded.{IsUnsplitRoot, IsLoaded, StopsLoading, refused_at};
 ghost use Rattle.kn_load.specs.declared.fault.LoadFault.TheVariants as L;
 
-use crate::drafts::read_drafts;
 use crate::fault::LoadFault;
+use crate::read_results::read_results;
 use crate::read_texts::{ReadTexts, read_texts, readings_of};
 use kn_assert::ReadFault;
 use kn_base::limits::{FILE_BYTES, LIVE_BYTES, LIVE_CREDENTIALS};
@@ -79,8 +79,8 @@ fn add_file<R: Threads + Wait + Sync>(
     while from < spans.len() {
         let to = batch_end(spans, from);
         let batch = &spans.as_slice()[from as usize..to as usize];
-        let drafts = read_drafts(rt, alloc, file, batch)?;
-        let readings = readings_of(alloc, drafts)?;
+        let results = read_results(rt, alloc, file, batch)?;
+        let readings = readings_of(alloc, results)?;
         match add_readings(rt, registry, root, readings, from) {
             Ok(()) => from = to,
             Err(fault) => return Err(fault),

@@ -1,9 +1,9 @@
 //! The readings of texts in their order, up to the first that has none.
 ghost use Rattle.std.specs.Prelude.{◌<◌, ◌^◌, ◌∷◌, ◌++◌, [], length, ℕ, List as Of, IfOk, OnOk};
 ghost use Rattle.std.specs.List.{AllZip};
-ghost use Rattle.kn_load.specs.Drafting.{IsDraftOf, AreReadings};
+ghost use Rattle.kn_load.specs.Readings.{IsReadResultOf, AreReadings};
 
-use crate::drafts::{Draft, read_draft};
+use crate::read_results::{ReadResult, read_result};
 use kn_assert::ReadFault;
 use kn_base::{List, NoMemory, Octets};
 use kn_history::Ready;
@@ -20,21 +20,21 @@ pub(crate) struct ReadTexts {
 
 impl ReadTexts {
     /// Adds what was read of the next text. Behind a text that has a fault nothing is added.
-    fn add_draft(&mut self, draft: Draft) -> Result<(), NoMemory>
-        requires draft { (text : Of ℕ) × IsDraftOf text draft }
-        ensures { (texts : Of (Of ℕ)) (text : Of ℕ) → AreReadings texts self.old → IsDraftOf text draft
+    fn add_result(&mut self, found: ReadResult) -> Result<(), NoMemory>
+        requires found { (text : Of ℕ) × IsReadResultOf text found }
+        ensures { (texts : Of (Of ℕ)) (text : Of ℕ) → AreReadings texts self.old → IsReadResultOf text found
             → OnOk result (AreReadings (texts ++ text ∷ []) self.new) }
     {
         if self.fault.is_some() {
             return Ok(());
         }
-        match draft {
-            Draft::Unread => unreachable!(),
-            Draft::Read(ready) => match self.ready_texts.push(ready) {
+        match found {
+            ReadResult::Unread => unreachable!(),
+            ReadResult::Read(ready) => match self.ready_texts.push(ready) {
                 Ok(()) => Ok(()),
                 Err(_) => Err(NoMemory),
             },
-            Draft::Faulty(fault) => {
+            ReadResult::Faulty(fault) => {
                 self.fault = Some(fault);
                 Ok(())
             }
@@ -55,15 +55,15 @@ fn no_readings(alloc: Global, room: usize) -> Result<ReadTexts, NoMemory>
     }
 }
 
-/// The readings that drafts hold.
-pub(crate) fn readings_of(alloc: Global, drafts: Vec<Draft>) -> Result<ReadTexts, NoMemory>
-    requires drafts { (texts : Of (Of ℕ)) × AllZip IsDraftOf texts drafts.items }
-    ensures { (texts : Of (Of ℕ)) → AllZip IsDraftOf texts drafts.items
+/// The readings that were found of texts.
+pub(crate) fn readings_of(alloc: Global, results: Vec<ReadResult>) -> Result<ReadTexts, NoMemory>
+    requires results { (texts : Of (Of ℕ)) × AllZip IsReadResultOf texts results.items }
+    ensures { (texts : Of (Of ℕ)) → AllZip IsReadResultOf texts results.items
         → IfOk result (λ readings. AreReadings texts readings) }
 {
-    let mut readings = no_readings(alloc, drafts.len())?;
-    for draft in drafts {
-        readings.add_draft(draft)?;
+    let mut readings = no_readings(alloc, results.len())?;
+    for found in results {
+        readings.add_result(found)?;
     }
     Ok(readings)
 }
@@ -76,7 +76,7 @@ pub(crate) fn read_texts(alloc: Global, texts: &List<Octets>) -> Result<ReadText
     let mut readings = no_readings(alloc, texts.len() as usize)?;
     let items = texts.as_slice();
     for text in items {
-        readings.add_draft(read_draft(alloc, text.as_slice()))?;
+        readings.add_result(read_result(alloc, text.as_slice()))?;
     }
     Ok(readings)
 }

@@ -5,7 +5,7 @@ use Rattle.kn_history.specs.declared.update.Update.{Update}
 use Rattle.kn_history.specs.Retained.{retained_version}
 use Rattle.kn_session.specs.Sessions.{OpenSessions}
 use Rattle.kn_reply.specs.declared.refusal.Refusal.{Refusal}
-use Rattle.kn_daemon.specs.Shapes.{Looks, ForRetained}
+use Rattle.kn_daemon.specs.Shapes.{Looks, ForPinAt}
 use Rattle.kn_daemon.specs.Daemon.{State, own_refusal, pinned_to}
 use Rattle.kn_daemon.specs.Played.{no_config}
 use Rattle.kn_play.specs.Playing.{state_of_sessions, applied}
@@ -14,14 +14,14 @@ use Rattle.kn_play.specs.Playing.{state_of_sessions, applied}
 abbrev pub after_pin : OpenSessions → ℕ → Option (List Update) → State
 after_pin old s version =
     option_map_or (λ refusal. state_of_sessions old)
-    (own_refusal no_config (state_of_sessions old) (Looks (ForRetained s 0)))
+    (own_refusal no_config (state_of_sessions old) (Looks (ForPinAt s 0)))
     (pinned_to (state_of_sessions old) s version)
 
 -- a version that isn't retained pins nothing
 pub not-retained : (history : List Update) (old : OpenSessions) (s v : ℕ) → retained_version history v ≡ None
-    → state_of_sessions old ≡ applied history old (Looks (ForRetained s v))
+    → state_of_sessions old ≡ applied history old (Looks (ForPinAt s v))
 not-retained history old s v none =
-    by (own_refusal no_config (state_of_sessions old) (Looks (ForRetained s v))) (retained_version history v) none
+    by (own_refusal no_config (state_of_sessions old) (Looks (ForPinAt s v))) (retained_version history v) none
   where
     by : (refusal : Option Refusal) (version : Option (List Update)) → version ≡ None
         → state_of_sessions old

@@ -8,19 +8,6 @@ use Rattle.kn_daemon.specs.Shapes.{Asks, WithProof, ToKeep}
 use Rattle.kn_daemon.specs.Played.{AsksOf}
 use Rattle.kn_play.specs.Playing.{state_of_sessions, applied}
 
-pub not-asked : (history : List Update) (old : OpenSessions) (s : ℕ) (names : List ℕ)
-    → ((session : Session) (values : List (List ℕ))
-    → AsksOf (state_of_sessions old) (Asks WithProof s names) session values → ⊥)
-    → state_of_sessions old ≡ applied history old (Asks ToKeep s names)
-not-asked history old s names none = by (session_in old.sessions s) (values_of names) refl refl
-  where
-    by : (found : Option Session) (values : Option (List (List ℕ))) → session_in old.sessions s ≡ found
-        → values_of names ≡ values
-        → state_of_sessions old ≡ applied history old (Asks ToKeep s names)
-    by None values f v = rw f refl
-    by (Some session) None f v = rw f (rw v refl)
-    by (Some session) (Some values) f v = absurd (none session values (f, v))
-
 pub asked-kept : (history : List Update) (old new : OpenSessions) (s : ℕ) (names : List ℕ) (session : Session)
     (values : List (List ℕ))
     → session_in old.sessions s ≡ Some session → values_of names ≡ Some values

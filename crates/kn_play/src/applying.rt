@@ -6,7 +6,7 @@ ghost use Rattle.kn_session.specs.Calls.{Set, call_of};
 ghost use Rattle.kn_session.specs.declared.fault.SessionFault.TheVariants as F;
 ghost use Rattle.kn_wire.specs.Hex.{bytes_of_hex};
 ghost use Rattle.kn_wire.specs.Requests.{is_hex};
-ghost use Rattle.kn_daemon.specs.Shapes.{Calls, Asks, Looks, ForNew, ForOpen, ForRetained, ForStanding, ToKeep};
+ghost use Rattle.kn_daemon.specs.Shapes.{Calls, Asks, Looks, ForOpen, ForPin, ForPinAt, ForNews, ToKeep};
 ghost use Rattle.kn_daemon.specs.Shapes.{shape_in_code, IsFormed};
 ghost use Rattle.kn_play.specs.Playing.{state_of_sessions, applied, NumbersGoOn};
 
@@ -37,7 +37,7 @@ pub(crate) fn apply(
         Shape::News { s } => move_standing(book, sessions, s),
         Shape::Watch { s, values } => watch(alloc, sessions, s, values),
         Shape::Call { s, call } => apply_call(alloc, sessions, s, call),
-        Shape::SetDigits { s, name, digits } => set_hex(alloc, sessions, s, name, digits),
+        Shape::SetHex { s, name, digits } => set_hex(alloc, sessions, s, name, digits),
         Shape::Add { .. }
         | Shape::Remove { .. }
         | Shape::Batch { .. }
@@ -52,7 +52,7 @@ pub(crate) fn apply(
 /// Starts a session at the newest version.
 fn start(book: &Book, sessions: &mut Sessions) -> Result<(), NoMemory>
     requires room { NumbersGoOn sessions.old }
-    ensures { OnOk result (state_of_sessions sessions.new ≡ applied book.now sessions.old (Looks ForNew)) }
+    ensures { OnOk result (state_of_sessions sessions.new ≡ applied book.now sessions.old (Looks ForOpen)) }
 {
     let Ok(pinned) = book.snapshot().clone() else {
         return Err(NoMemory);
@@ -76,7 +76,7 @@ fn pass_refusal(fault: SessionFault) -> Result<(), NoMemory>
 
 /// Pins a session to the newest version.
 fn repin(book: &Book, sessions: &mut Sessions, s: u32) -> Result<(), NoMemory>
-    ensures { OnOk result (state_of_sessions sessions.new ≡ applied book.now sessions.old (Looks (ForOpen s))) }
+    ensures { OnOk result (state_of_sessions sessions.new ≡ applied book.now sessions.old (Looks (ForPin s))) }
 {
     pin_to(book.snapshot(), sessions, s)
 }
@@ -84,7 +84,7 @@ fn repin(book: &Book, sessions: &mut Sessions, s: u32) -> Result<(), NoMemory>
 /// Pins a session to a version that is retained. Another one is refused.
 fn repin_at(book: &Book, sessions: &mut Sessions, s: u32, version: u32) -> Result<(), NoMemory>
     ensures { OnOk result (state_of_sessions sessions.new
-        ≡ applied book.now sessions.old (Looks (ForRetained s version))) }
+        ≡ applied book.now sessions.old (Looks (ForPinAt s version))) }
 {
     match book.retained(version) {
         Some(retained) => pin_to(retained, sessions, s),
@@ -95,7 +95,7 @@ fn repin_at(book: &Book, sessions: &mut Sessions, s: u32, version: u32) -> Resul
 /// Pins a session to a version, as if that were the newest one.
 fn pin_to(snapshot: &Snapshot, sessions: &mut Sessions, s: u32) -> Result<(), NoMemory>
     ensures { OnOk result (state_of_sessions sessions.new
-        ≡ applied (arc_value snapshot.now) sessions.old (Looks (ForOpen s))) }
+        ≡ applied (arc_value snapshot.now) sessions.old (Looks (ForPin s))) }
 {
     let Ok(pinned) = snapshot.clone() else {
         return Err(NoMemory);
@@ -106,7 +106,7 @@ fn pin_to(snapshot: &Snapshot, sessions: &mut Sessions, s: u32) -> Result<(), No
 
 /// Moves the standing query of a session, if it has one, to the newest version.
 fn move_standing(book: &Book, sessions: &mut Sessions, s: u32) -> Result<(), NoMemory>
-    ensures { OnOk result (state_of_sessions sessions.new ≡ applied book.now sessions.old (Looks (ForStanding s))) }
+    ensures { OnOk result (state_of_sessions sessions.new ≡ applied book.now sessions.old (Looks (ForNews s))) }
 {
     let Ok(newest) = book.snapshot().clone() else {
         return Err(NoMemory);

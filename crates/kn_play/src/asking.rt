@@ -27,7 +27,7 @@ pub(crate) fn read_asked(
     match shape {
         Shape::Query { s, values } => read_query(alloc, sessions, s, values),
         Shape::Call { .. }
-        | Shape::SetDigits { .. }
+        | Shape::SetHex { .. }
         | Shape::Open
         | Shape::Pin { .. }
         | Shape::PinAt { .. }

@@ -106,14 +106,6 @@ last-up_to low (x ∷ y ∷ xs) last (suc n) ids long here =
     let above : x.id < y.id = ids.1.0 in
     (omega (arith, next, above), rest)
 
-pub at-up_to : (most : ℕ) (xs : List NumberedText) (c : NumberedText) (n : ℕ) → AreUpTo most xs
-    → slice_get xs n ≡ Some c → c.id ≤ most
-at-up_to most [] c n up_to here = absurd (cc)
-at-up_to most (x ∷ xs) c zero up_to here =
-    let same : x.id ≡ c.id = ap (λ (d : NumberedText). d.id) (same_Some x c here) in let first = up_to.0 in
-    omega (arith, same, first)
-at-up_to most (x ∷ xs) c (suc n) up_to here = at-up_to most xs c n up_to.1 here
-
 -- no id before a place is above the one there
 pub ids-ordered : (low : ℕ) (xs : List NumberedText) (i j a b : ℕ) → IdsAscend low xs → i ≤ j
     → slice_get (map (λ c. c.id) xs) i ≡ Some a

@@ -24,19 +24,6 @@ use Rattle.kn_query.proofs.SharedParts.{parts-count}
 
 -- What is known for a version.
 
-pub keeps-itself : (version : List Update) (n : ℕ) → n ≡ length version → KeepsLevel (take n version) version
-keeps-itself version n whole =
-    subst (λ (v : List Update). KeepsLevel v version) (sym (take_all n version (omega (arith, whole))))
-    (λ asked level is. is)
-
-pub steady-alone : (version : List Update) (steady : Steady) (number : ℕ) → number ≡ length version
-    → steady.from ≡ number → steady.to ≡ number → IsSteady version steady
-steady-alone version steady number whole first last = record {
-  within = omega (arith, whole, last);
-  keeps = λ n covered. let low = covered.0 in let high = covered.1 in
-      keeps-itself version n (omega (arith, low, high, first, last, whole));
-}
-
 -- for an earlier version it is known too
 pub steady-since : (version : List Update) (number : ℕ) (old new : Steady) → number ≤ length version
     → IsSteady (take number version) old → KeepsLevel (take number version) version → new.to ≡ number

@@ -63,10 +63,6 @@ length_more : (ds : List ℕ) (b : ℕ) → length (ds ++ b ∷ []) ≡ length d
 length_more [] b = refl
 length_more (d ∷ ds) b = let e = length_more ds b in omega (arith, e)
 
-first_more : (ds : List ℕ) (b : ℕ) → 0 < length ds → get_or (ds ++ b ∷ []) 0 0 ≡ get_or ds 0 0
-first_more [] b some = absurd (omega (arith, some))
-first_more (d ∷ ds) b some = refl
-
 pub are_last_digits : (k n : ℕ) (acc : List ℕ) → AreLastDigits k n acc (digits_onto k 10 false n acc)
 are_last_digits zero n acc =
     record {

@@ -21,7 +21,7 @@ use Rattle.kn_reply.specs.Replies.{Number, Added, No, reply_text}
 use Rattle.kn_daemon.specs.Shapes.{Updating, Updates, AddText, DropId}
 use Rattle.kn_daemon.specs.Daemon.{DaemonConfig, State, own_refusal, placed_refusal, refusal_of_store}
 use Rattle.kn_daemon.specs.Daemon.{refusal_of_update}
-use Rattle.kn_daemon.specs.Daemon.{refusal_of_reading, refusal_of_verdict, refusal_at_reading, refusal_at_verdict}
+use Rattle.kn_daemon.specs.Daemon.{refusal_at_reading, refusal_at_verdict}
 use Rattle.kn_daemon.specs.Daemon.{item_refusal}
 use Rattle.kn_registry.specs.Passes.{PassSeen, Adds, Removes, IsRefused, Refuses, RefusesText, RefusesId}
 use Rattle.kn_serve.specs.Admission.{Admits, RefusesItem}
@@ -128,7 +128,7 @@ refusal_of_addition g text = by (reading_of text)
     at_fault (Some n) place = refl
 
     by : (r : Result Assertion ReadFault) →
-        refusal_of_reading r (λ a. refusal_of_verdict (g.verdict text a))
+        refusal_at_reading R.Read r (λ a. refusal_at_verdict R.Auth (g.verdict text a))
         ≡ option_map request_refusal (refusal_at_reading I.Read r (λ a. refusal_at_verdict I.Auth (g.verdict text a)))
     by (Ok a) = at_verdict (g.verdict text a) (g.verdict text a == 0)
     by (Err fault) = at_fault (fault_number fault) (fault_place fault)

@@ -10,8 +10,8 @@ use Rattle.kn_session.specs.Sessions.{Session, with_changed, pin_at}
 use Rattle.kn_reply.specs.Replies.{Reply, Done, Started, Number, PrivateAdded, Added, Value, Batched, PinnedAt, Log}
 use Rattle.kn_reply.specs.Replies.{News, Critical, No, NoMemory}
 use Rattle.kn_daemon.specs.declared.shape.Shape.{Shape as Asked}
-use Rattle.kn_daemon.specs.Shapes.{Shape, Calls, Updates, Looks, Asks, Controls, AtFault, ForNew, ForOpen, ForRetained}
-use Rattle.kn_daemon.specs.Shapes.{ForStanding, ForLog, WithProof, WithCritical, ToKeep, shape_in_code}
+use Rattle.kn_daemon.specs.Shapes.{Shape, Calls, Updates, Looks, Asks, Controls, AtFault, ForOpen, ForPin, ForPinAt}
+use Rattle.kn_daemon.specs.Shapes.{ForNews, ForLog, WithProof, WithCritical, ToKeep, shape_in_code}
 use Rattle.kn_daemon.specs.Daemon.{DaemonConfig, State, session_of, pinned_to, with_session, state_after, Permits}
 use Rattle.kn_serve.specs.declared.last_question.LastAnswer.{LastAnswer}
 use Rattle.kn_serve.specs.Handling.{Moment, Handles}
@@ -103,16 +103,16 @@ still-repinned history version state s values last is = record {
 still-changed : (history past : List Update) (state : State) (shape : Shape) (values : Values) (last : LastAnswer)
     → may_keep_answer shape ≡ true → IsStillRight history state values last
     → IsStillRight history (state_after past state shape) values last
-still-changed history past state (Looks (ForOpen s)) values last k is =
+still-changed history past state (Looks (ForPin s)) values last k is =
     still-repinned history past state s values last is
-still-changed history past state (Looks (ForRetained s number)) values last k is = by (retained_version past number)
+still-changed history past state (Looks (ForPinAt s number)) values last k is = by (retained_version past number)
   where
     by : (found : Option (List Update)) → IsStillRight history (pinned_to state s found) values last
     by None = is
     by (Some version) = still-repinned history version state s values last is
 still-changed history past state (Looks (ForLog n)) values last k is = is
-still-changed history past state (Looks ForNew) values last k is = absurd (cc k)
-still-changed history past state (Looks (ForStanding s)) values last k is = absurd (cc k)
+still-changed history past state (Looks ForOpen) values last k is = absurd (cc k)
+still-changed history past state (Looks (ForNews s)) values last k is = absurd (cc k)
 still-changed history past state (Updates update) values last k is = is
 still-changed history past state (Asks WithProof s names) values last k is = is
 still-changed history past state (Asks WithCritical s names) values last k is = is
@@ -177,17 +177,6 @@ at-own : (history : List Update) (session : Session) (number : ℕ) → IsFirstO
 at-own history session number first at =
     let same : take number history ≡ session.pinned = ap (λ (n : ℕ). take n history) (sym at) ∙ sym first in
     ap (λ (p : List Update). record session { pinned = p }) same
-
--- the answer that is kept is the session's again
-pub right-again : (state : State) (history : List Update) (last : LastAsked) → ArePinned history state
-    → IsLastOf history state last → IsRightAgain state last
-right-again state history last pinned is = λ session values answer vs a found at.
-    let still : IfSome (Some values) (λ v. IfSome last.answer (IsStillRight history state v)) =
-    subst (λ (o : Option Values). IfSome o (λ v. IfSome last.answer (IsStillRight history state v))) vs is in
-    let one : IsStillRight history state values answer =
-    subst (λ (o : Option LastAnswer). IfSome o (IsStillRight history state values)) a still in
-    subst (λ (x : Session). IsRight x values answer.answer)
-    (at-own history session answer.version (pinned answer.s session found).pin at) (one.right session found)
 
 -- an answer that was just found is right
 pub last-found : (state : State) (last : LastAsked) (s version : ℕ) (session : Session) (values : Values)

@@ -15,7 +15,7 @@ use Rattle.kn_reply.specs.declared.refusal.Refusal.{Refusal}
 use Rattle.kn_reply.specs.declared.refusal.Refusal.TheVariants as R
 use Rattle.kn_reply.specs.declared.refusal.LimitWord.TheVariants as W
 use Rattle.kn_reply.specs.Replies.{Started, Number, PinnedAt, No, NoMemory, reply_text}
-use Rattle.kn_daemon.specs.Shapes.{Shape, Looks, ForNew, ForOpen, ForRetained}
+use Rattle.kn_daemon.specs.Shapes.{Shape, Looks, ForOpen, ForPin, ForPinAt}
 use Rattle.kn_daemon.specs.Daemon.{DaemonConfig, State, session_of, own_refusal, placed_refusal, refuse_if, pinned_to}
 use Rattle.kn_daemon.specs.Daemon.{refusal_by}
 use Rattle.kn_registry.specs.declared.answer.PinFault.{PinFault}
@@ -27,7 +27,7 @@ use Rattle.kn_serve.proofs.HandlingLaws.{refused_handled}
 use Rattle.kn_serve.proofs.CallingLaws.{state_with, none_found}
 
 abbrev opens : Shape
-opens = Looks ForNew
+opens = Looks ForOpen
 
 module _ (g : DaemonConfig) (whole : Bool) (l l' : LinkSeen) (now : State) where
   -- there are as many sessions as there may be
@@ -58,28 +58,28 @@ module _ (g : DaemonConfig) (whole : Bool) (v w : PassSeen) (l l' : LinkSeen) (n
       refl prints
 
   pub pin_memory : (s : ℕ) (session : Session) → session_of now s ≡ Some session → Stays v w →
-      Prints whole (reply_text NoMemory) l l' → Keeps (Looks (ForOpen s))
+      Prints whole (reply_text NoMemory) l l' → Keeps (Looks (ForPin s))
   pin_memory s session found stays prints =
-      lacking_handled g (Looks (ForOpen s)) whole (in_state now v l) (in_state now w l') refl stays (rw found refl)
+      lacking_handled g (Looks (ForPin s)) whole (in_state now v l) (in_state now w l') refl stays (rw found refl)
       refl prints
 
   -- the version isn't retained, or memory ran out for it
   pub pin_at_refused : (s version : ℕ) (session : Session) (fault : PinFault) (told : Option Refusal) →
       session_of now s ≡ Some session → RefusesVersion v w version fault → told ≡ refusal_of_version fault →
-      Prints whole (reply_text (refused_reply told)) l l' → Keeps (Looks (ForRetained s version))
+      Prints whole (reply_text (refused_reply told)) l l' → Keeps (Looks (ForPinAt s version))
   pin_at_refused s version session fault told found refused is prints =
       by fault refused (subst (λ (o : Option Refusal). Prints whole (reply_text (refused_reply o)) l l') is prints)
     where
       by : (f : PinFault) → RefusesVersion v w version f →
-          Prints whole (reply_text (refused_reply (refusal_of_version f))) l l' → Keeps (Looks (ForRetained s version))
+          Prints whole (reply_text (refused_reply (refusal_of_version f))) l l' → Keeps (Looks (ForPinAt s version))
       by P.NoMemory stays p =
-          lacking_handled g (Looks (ForRetained s version)) whole (in_state now v l) (in_state now w l') refl stays
+          lacking_handled g (Looks (ForPinAt s version)) whole (in_state now v l) (in_state now w l') refl stays
           (rw found refl) refl p
       by (P.Missing newest) m p =
           let due : Refusal = R.Retained (length w.seen) in
-          let placed : placed_refusal w.seen (Looks (ForRetained s version)) ≡ Some due =
+          let placed : placed_refusal w.seen (Looks (ForPinAt s version)) ≡ Some due =
           ap (λ (o : Option (List Update)). refuse_if (is_none o) due None) m.missing in
-          refused_handled g (Looks (ForRetained s version)) whole (in_state now v l) (in_state now w l') due refl
+          refused_handled g (Looks (ForPinAt s version)) whole (in_state now v l) (in_state now w l') due refl
           m.looks (rw found refl) placed
           (subst (λ (k : ℕ). Prints whole (reply_text (No (R.Retained k))) l l') m.newest_is p)
 
@@ -122,10 +122,10 @@ module _ (g : DaemonConfig) (whole : Bool) (v w : PassSeen) (l l' : LinkSeen) (a
     -- the session was pinned
     pub pin_done : (s version : ℕ) (made : List Update) → PassLooks v w → made ≡ w.seen → version ≡ length made →
         fault_in s (session_in a.sessions s) (λ x. None) ≡ None → b ≡ with_open_session a s (pin_at made) →
-        Prints whole (reply_text (Number version)) l l' → Changes (Looks (ForOpen s))
+        Prints whole (reply_text (Number version)) l l' → Changes (Looks (ForPin s))
     pin_done s version made looks seen at accepted after prints =
         let pinned : List Update → State = λ u. state_with (with_open_session a s (pin_at u)) is_admin in
-        looked_handled g (Looks (ForOpen s)) whole (in_state old v l) (in_state new w l') (Number version) looks
+        looked_handled g (Looks (ForPin s)) whole (in_state old v l) (in_state new w l') (Number version) looks
         (ap refusal_by accepted) refl
         (record {
           accepted = ap refusal_by accepted;
@@ -137,9 +137,9 @@ module _ (g : DaemonConfig) (whole : Bool) (v w : PassSeen) (l l' : LinkSeen) (a
     pub pin_at_done : (s version newest : ℕ) (made : List Update) → PassLooks v w →
         retained_version w.seen version ≡ Some made → newest ≡ length w.seen →
         fault_in s (session_in a.sessions s) (λ x. None) ≡ None → b ≡ with_open_session a s (pin_at made) →
-        Prints whole (reply_text (PinnedAt version newest)) l l' → Changes (Looks (ForRetained s version))
+        Prints whole (reply_text (PinnedAt version newest)) l l' → Changes (Looks (ForPinAt s version))
     pin_at_done s version newest made looks retained at accepted after prints =
-        looked_handled g (Looks (ForRetained s version)) whole (in_state old v l) (in_state new w l')
+        looked_handled g (Looks (ForPinAt s version)) whole (in_state old v l) (in_state new w l')
         (PinnedAt version newest) looks (ap refusal_by accepted) refl
         (record {
           accepted = ap refusal_by accepted;
@@ -150,13 +150,13 @@ module _ (g : DaemonConfig) (whole : Bool) (v w : PassSeen) (l l' : LinkSeen) (a
 -- Where the session isn't open.
 module _ (g : DaemonConfig) (whole : Bool) (l l' : LinkSeen) (now : State) (s : ℕ) (fault : SessionFault)
     (why : fault_in s (session_of now s) (λ x. None) ≡ Some fault) where
-  pub pin_unknown : Prints whole (reply_text (No R.Session)) l l' → Tells g (Looks (ForOpen s)) whole now now l l'
+  pub pin_unknown : Prints whole (reply_text (No R.Session)) l l' → Tells g (Looks (ForPin s)) whole now now l l'
   pin_unknown prints =
       let none : session_of now s ≡ None = none_found s (session_of now s) fault why in
-      told_refused g (Looks (ForOpen s)) whole now l l' R.Session (rw none refl) prints
+      told_refused g (Looks (ForPin s)) whole now l l' R.Session (rw none refl) prints
 
   pub pin_at_unknown : (version : ℕ) → Prints whole (reply_text (No R.Session)) l l' →
-      Tells g (Looks (ForRetained s version)) whole now now l l'
+      Tells g (Looks (ForPinAt s version)) whole now now l l'
   pin_at_unknown version prints =
       let none : session_of now s ≡ None = none_found s (session_of now s) fault why in
-      told_refused g (Looks (ForRetained s version)) whole now l l' R.Session (rw none refl) prints
+      told_refused g (Looks (ForPinAt s version)) whole now l l' R.Session (rw none refl) prints

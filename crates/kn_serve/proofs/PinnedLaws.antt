@@ -14,8 +14,8 @@ use Rattle.kn_session.specs.Calls.{Call, Close, Auth, Unwatch, after_call, call_
 use Rattle.kn_reply.specs.Replies.{Reply, Done, Started, Number, PrivateAdded, Added, Value, Batched, PinnedAt, Log}
 use Rattle.kn_reply.specs.Replies.{News, Critical, No, NoMemory}
 use Rattle.kn_wire.specs.Feeding.{Held}
-use Rattle.kn_daemon.specs.Shapes.{Shape, Calls, Updates, Looks, Asks, Controls, AtFault, ForNew, ForOpen, ForRetained}
-use Rattle.kn_daemon.specs.Shapes.{ForStanding, ForLog, Look, Question, WithProof, WithCritical, ToKeep, Control}
+use Rattle.kn_daemon.specs.Shapes.{Shape, Calls, Updates, Looks, Asks, Controls, AtFault, ForOpen, ForPin, ForPinAt}
+use Rattle.kn_daemon.specs.Shapes.{ForNews, ForLog, Look, Question, WithProof, WithCritical, ToKeep, Control}
 use Rattle.kn_daemon.specs.Shapes.{ShowSecret, Leave, shape_of}
 use Rattle.kn_daemon.specs.Daemon.{DaemonConfig, State, first_state, pinned_to, state_after_look, state_keeping}
 use Rattle.kn_daemon.specs.Daemon.{state_after_question}
@@ -123,15 +123,15 @@ moved-pinned h n (Some query) = taken-so n h
 
 pinned-looked : (h : List Update) (n : ℕ) (state : State) (look : Look) → AllPinned h state.sessions
     → AllPinned h (state_after_look (take n h) state look).sessions
-pinned-looked h n state ForNew are =
+pinned-looked h n state ForOpen are =
     pinned-push h state.sessions (started_session (state.started + 1) (take n h)) are
     (record { pin = taken-so n h; standing = tt })
-pinned-looked h n state (ForOpen s) are =
+pinned-looked h n state (ForPin s) are =
     pinned-change h state.sessions s (pin_at (take n h))
     (λ x is. record { pin = taken-so n h; standing = is.standing }) are
-pinned-looked h n state (ForRetained s number) are =
+pinned-looked h n state (ForPinAt s number) are =
     pinned-retained h state s (retained_version (take n h) number) (retained-part h n number) are
-pinned-looked h n state (ForStanding s) are =
+pinned-looked h n state (ForNews s) are =
     pinned-change h state.sessions s (move_standing (take n h))
     (λ x is. record { pin = is.pin; standing = moved-pinned h n x.standing }) are
 pinned-looked h n state (ForLog m) are = are

@@ -13,7 +13,7 @@ use Rattle.kn_session.specs.Sessions.{query_with, watch_with, query_at, move_sta
 use Rattle.kn_reply.specs.declared.refusal.Refusal.{Refusal}
 use Rattle.kn_reply.specs.Replies.{News, NoMemory, reply_text}
 use Rattle.kn_meaning.specs.Equations.{IsPolicyLevel}
-use Rattle.kn_daemon.specs.Shapes.{Shape, ToKeep, Asks, ForStanding, Looks}
+use Rattle.kn_daemon.specs.Shapes.{Shape, ToKeep, Asks, ForNews, Looks}
 use Rattle.kn_daemon.specs.Daemon.{DaemonConfig, State, session_of, own_refusal, equations_of, refusal_by}
 use Rattle.kn_daemon.specs.Daemon.{refusal_of_session, state_keeping, with_session}
 use Rattle.kn_registry.specs.Passes.{PassSeen, Looks as PassLooks, Stays}
@@ -102,7 +102,7 @@ watch_answered g whole a b is_admin s names l l' session values level version qu
 -- Answering it anew.
 
 abbrev asks_anew : ℕ → Shape
-asks_anew s = Looks (ForStanding s)
+asks_anew s = Looks (ForNews s)
 
 -- no standing query is found
 pub news_refused : (g : DaemonConfig) (whole : Bool) (now : State) (s : ℕ) (l l' : LinkSeen) (fault : SessionFault)

@@ -6,7 +6,7 @@ use Rattle.kn_history.specs.declared.update.Update.{Update}
 use Rattle.kn_meaning.specs.Equations.{IsPolicyLevel}
 use Rattle.kn_meaning.specs.Proofs.{IsProof}
 use Rattle.kn_session.specs.Sessions.{Session}
-use Rattle.kn_daemon.specs.Shapes.{Shape, Calls, Updates, Looks, Asks, Controls, AtFault, ForOpen, ForRetained, ForLog}
+use Rattle.kn_daemon.specs.Shapes.{Shape, Calls, Updates, Looks, Asks, Controls, AtFault, ForPin, ForPinAt, ForLog}
 use Rattle.kn_daemon.specs.Shapes.{WithProof, WithCritical}
 use Rattle.kn_daemon.specs.Daemon.{State, session_of, equations_of}
 use Rattle.kn_query.specs.declared.kept_bases.KeptBases.{KeptBases}
@@ -80,8 +80,8 @@ LastStays old before new after = (history : List Update) → ArePinned history o
 
 -- whether all that the last answer hangs on is the same after a request of this shape
 abbrev pub may_keep_answer : Shape → Bool
-may_keep_answer (Looks (ForOpen s)) = true
-may_keep_answer (Looks (ForRetained s version)) = true
+may_keep_answer (Looks (ForPin s)) = true
+may_keep_answer (Looks (ForPinAt s version)) = true
 may_keep_answer (Looks (ForLog n)) = true
 may_keep_answer (Looks look) = false
 may_keep_answer (Updates update) = true

@@ -64,7 +64,7 @@ pub(crate) fn answer<R: Wait, A: Authenticator, L: Link, G: Gate>(
         Shape::Batch { block } => batch(rt, alloc, config, pass, connection, block, link),
         Shape::Log { n } => log(rt, config.registry, pass, connection, n, link),
         Shape::Call { s, call } => answer_call(alloc, connection, s, call, link),
-        Shape::SetDigits { s, name, digits } => set_hex(alloc, connection, s, name, digits, link),
+        Shape::SetHex { s, name, digits } => set_hex(alloc, connection, s, name, digits, link),
         Shape::News { s } => news(rt, alloc, config.registry, pass, connection, kept, s, link),
         Shape::Query { s, values } => query(alloc, connection, kept, s, values, link),
         Shape::Watch { s, values } => watch(alloc, connection, kept, s, values, link),

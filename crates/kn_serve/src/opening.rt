@@ -2,7 +2,7 @@
 ghost use Rattle.std.specs.Prelude.{◌≡◌, None};
 ghost use Rattle.kn_outside.specs.Printing.{is_whole};
 ghost use Rattle.kn_registry.specs.Passes.{IsReady};
-ghost use Rattle.kn_daemon.specs.Shapes.{Looks, ForNew, ForOpen, ForRetained};
+ghost use Rattle.kn_daemon.specs.Shapes.{Looks, ForOpen, ForPin, ForPinAt};
 ghost use Rattle.kn_daemon.specs.Daemon.{DaemonConfig};
 ghost use Rattle.kn_serve.specs.Handling.{moment, state_of, HasRoom, Handles};
 ghost use Rattle.kn_serve.specs.KeptBases.{ArePinned};
@@ -28,7 +28,7 @@ pub(crate) fn open<R: Wait, L: Link>(
     requires room { HasRoom (state_of connection.old) }
     ensures ready { IsReady reg.now pass.new }
     ensures forgotten { connection.new.last.answer ≡ None }
-    ensures handled { (g : DaemonConfig) → Handles g (Looks ForNew) (is_whole result)
+    ensures handled { (g : DaemonConfig) → Handles g (Looks ForOpen) (is_whole result)
         (moment pass.old connection.old (L.seen link.old)) (moment pass.new connection.new (L.seen link.new)) }
 {
     connection.last.forget();
@@ -61,7 +61,7 @@ pub(crate) fn pin<R: Wait, L: Link>(
     requires pinned { ArePinned pass.old.seen (state_of connection.old) }
     ensures ready { IsReady reg.now pass.new }
     ensures last { connection.new.last ≡ connection.old.last }
-    ensures handled { (g : DaemonConfig) → Handles g (Looks (ForOpen s)) (is_whole result)
+    ensures handled { (g : DaemonConfig) → Handles g (Looks (ForPin s)) (is_whole result)
         (moment pass.old connection.old (L.seen link.old)) (moment pass.new connection.new (L.seen link.new)) }
 {
     let view = match connection.sessions.view(s) {
@@ -92,7 +92,7 @@ pub(crate) fn pin_at<R: Wait, L: Link>(
     requires ready { IsReady reg.now pass.old }
     ensures ready { IsReady reg.now pass.new }
     ensures last { connection.new.last ≡ connection.old.last }
-    ensures handled { (g : DaemonConfig) → Handles g (Looks (ForRetained s version)) (is_whole result)
+    ensures handled { (g : DaemonConfig) → Handles g (Looks (ForPinAt s version)) (is_whole result)
         (moment pass.old connection.old (L.seen link.old)) (moment pass.new connection.new (L.seen link.new)) }
 {
     match connection.sessions.view(s) {

@@ -4,7 +4,7 @@ ghost use Rattle.kn_outside.specs.Printing.{Prints, is_whole};
 ghost use Rattle.kn_registry.specs.Passes.{IsReady};
 ghost use Rattle.kn_session.specs.Asking.{IsQueryLevelIfKnown};
 ghost use Rattle.kn_reply.specs.Replies.{News, reply_text};
-ghost use Rattle.kn_daemon.specs.Shapes.{Asks, Looks, ToKeep, ForStanding};
+ghost use Rattle.kn_daemon.specs.Shapes.{Asks, Looks, ToKeep, ForNews};
 ghost use Rattle.kn_daemon.specs.Daemon.{DaemonConfig};
 ghost use Rattle.kn_serve.specs.Handling.{moment, state_of, Handles, Tells};
 ghost use Rattle.kn_serve.specs.KeptBases.{AreAllOfOne, ArePinned, IsKept, StaysOf};
@@ -75,7 +75,7 @@ pub(crate) fn news<R: Wait, L: Link>(
     ensures ready { IsReady reg.now pass.new }
     ensures of_history { IsKept pass.new.seen kept.new }
     ensures forgotten { connection.new.last.answer ≡ None }
-    ensures handled { (g : DaemonConfig) → Handles g (Looks (ForStanding s)) (is_whole result)
+    ensures handled { (g : DaemonConfig) → Handles g (Looks (ForNews s)) (is_whole result)
         (moment pass.old connection.old (L.seen link.old)) (moment pass.new connection.new (L.seen link.new)) }
 {
     connection.last.forget();

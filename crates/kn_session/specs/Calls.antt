@@ -129,25 +129,6 @@ call_of (Q.Auth principal) = Auth principal.now
 call_of (Q.Unauth principal) = Unauth principal.now
 call_of Q.Unwatch = Unwatch
 
--- The sorts of calls: one closes its session, one adds the assertion of a text, and each other one changes a session
--- that stays open and gives nothing: it stores something, for which memory may run out, or it frees something.
-pub data CallSort : Type 0 where
-  Closing : CallSort
-  Adding : List ℕ → CallSort
-  Storing : CallSort
-  Freeing : CallSort
-
-abbrev pub sort_of : Call → CallSort
-sort_of Close = Closing
-sort_of Clear = Freeing
-sort_of (Assert text) = Adding text
-sort_of (Retract k) = Freeing
-sort_of (Set name value) = Storing
-sort_of (Unset name) = Freeing
-sort_of (Auth text) = Storing
-sort_of (Unauth text) = Freeing
-sort_of Unwatch = Freeing
-
 -- a text that has no reading has its first fault, which is never `NoMemory`
 abbrev pub text_fault : Result Assertion ReadFault → (Assertion → Option CallFault) → Option CallFault
 text_fault (Ok assertion) next = next assertion
@@ -159,28 +140,19 @@ own_fault fault = option_map T.Session fault
 
 -- What refuses a call by the session alone. An assertion is judged once its text is read.
 abbrev pub session_fault : Call → Session → Option SessionFault
-session_fault Close session = None
-session_fault Clear session = None
-session_fault (Assert text) session = None
 session_fault (Retract k) session = retract_fault k session
 session_fault (Set name value) session = set_fault name value session
 session_fault (Unset name) session = unset_fault name session
 session_fault (Auth text) session = auth_fault text session
 session_fault (Unauth text) session = unauth_fault text session
 session_fault Unwatch session = standing_fault session
+session_fault call session = None
 
 -- why a call of an open session is refused
 abbrev pub call_fault : Call → Session → Option CallFault
-call_fault Close session = own_fault (session_fault Close session)
-call_fault Clear session = own_fault (session_fault Clear session)
 call_fault (Assert text) session =
     text_fault (reading_of text) (λ assertion. own_fault (private_fault text assertion session))
-call_fault (Retract k) session = own_fault (session_fault (Retract k) session)
-call_fault (Set name value) session = own_fault (session_fault (Set name value) session)
-call_fault (Unset name) session = own_fault (session_fault (Unset name) session)
-call_fault (Auth text) session = own_fault (session_fault (Auth text) session)
-call_fault (Unauth text) session = own_fault (session_fault (Unauth text) session)
-call_fault Unwatch session = own_fault (session_fault Unwatch session)
+call_fault call session = own_fault (session_fault call session)
 
 -- and why it is refused of the session of this number, which comes first where that isn't open
 abbrev pub call_fault_in : ℕ → Option Session → Call → Option CallFault
@@ -202,34 +174,19 @@ call_change Unwatch session = end_standing session
 -- what an accepted call of the session of this number makes of those that are open
 abbrev pub after_call : List Session → ℕ → Call → List Session
 after_call sessions s Close = without_session sessions s
-after_call sessions s Clear = with_changed sessions s (call_change Clear)
-after_call sessions s (Assert text) = with_changed sessions s (call_change (Assert text))
-after_call sessions s (Retract k) = with_changed sessions s (call_change (Retract k))
-after_call sessions s (Set name value) = with_changed sessions s (call_change (Set name value))
-after_call sessions s (Unset name) = with_changed sessions s (call_change (Unset name))
-after_call sessions s (Auth text) = with_changed sessions s (call_change (Auth text))
-after_call sessions s (Unauth text) = with_changed sessions s (call_change (Unauth text))
-after_call sessions s Unwatch = with_changed sessions s (call_change Unwatch)
+after_call sessions s call = with_changed sessions s (call_change call)
 
 -- what an accepted call gives: a private assertion's id, or nothing
-abbrev pub answer_of_sort : CallSort → Session → Applied
-answer_of_sort Closing session = A.Done
-answer_of_sort (Adding text) session = A.Added (session.made + 1)
-answer_of_sort Storing session = A.Done
-answer_of_sort Freeing session = A.Done
-
 abbrev pub call_answer : Call → Session → Applied
-call_answer call session = answer_of_sort (sort_of call) session
+call_answer (Assert text) session = A.Added (session.made + 1)
+call_answer call session = A.Done
 
--- the calls that may run out of memory; then nothing has changed
-abbrev pub needs_memory : CallSort → Bool
-needs_memory Closing = false
-needs_memory (Adding text) = true
-needs_memory Storing = true
-needs_memory Freeing = false
-
+-- The calls that store something may run out of memory; then nothing has changed.
 abbrev pub call_may_lack_memory : Call → Bool
-call_may_lack_memory call = needs_memory (sort_of call)
+call_may_lack_memory (Assert text) = true
+call_may_lack_memory (Set name value) = true
+call_may_lack_memory (Auth text) = true
+call_may_lack_memory call = false
 
 -- the fault means out of memory
 abbrev pub lacks_memory : CallFault → Bool
@@ -243,14 +200,9 @@ place_of_fault (T.Text fault) = fault_place fault
 place_of_fault (T.Session fault) = 0
 
 -- the text that is to be read as an assertion
-abbrev pub added_text : CallSort → List ℕ
-added_text Closing = []
-added_text (Adding text) = text
-added_text Storing = []
-added_text Freeing = []
-
 abbrev pub asserted : Call → List ℕ
-asserted call = added_text (sort_of call)
+asserted (Assert text) = text
+asserted call = []
 
 -- the open sessions after an accepted call
 abbrev pub with_call : OpenSessions → ℕ → Call → OpenSessions
@@ -277,14 +229,10 @@ answer_done (Ok done) = Ok A.Done
 answer_done (Err fault) = Err (T.Session fault)
 
 -- it changes a session that stays open, and gives nothing
-abbrev pub is_changing : CallSort → Bool
-is_changing Closing = false
-is_changing (Adding text) = false
-is_changing Storing = true
-is_changing Freeing = true
-
 abbrev pub is_change : Call → Bool
-is_change call = is_changing (sort_of call)
+is_change Close = false
+is_change (Assert text) = false
+is_change call = true
 
 -- the fault that is due, or `NoMemory` where the call may run out of memory
 abbrev pub IsDue : Bool → Option SessionFault → SessionFault → Type 0

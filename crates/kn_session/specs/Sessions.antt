@@ -87,13 +87,15 @@ pin_at past x = record x { pinned = past }
 
 -- what a session asks where these are the compliance values
 abbrev pub query_with : List (List ℕ) → Session → StandingQuery
-query_with values x = record {
-  pinned = x.pinned;
-  privates = x.privates;
-  attributes = x.attributes;
-  requesters = x.requesters;
-  values = values;
-}
+query_with values x =
+    record {
+      pinned = x.pinned;
+      privates = x.privates;
+      attributes = x.attributes;
+      requesters = x.requesters;
+      values =
+          values;
+    }
 
 -- it is kept, in place of an earlier one
 abbrev pub watch_with : List (List ℕ) → Session → Session
@@ -109,14 +111,10 @@ move_standing past x = record x { standing = option_map (query_at past) x.standi
 
 -- a session that asks with what a standing query was kept with
 abbrev pub asker : StandingQuery → Session
-asker query = record {
-  number = 0;
-  pinned = query.pinned;
+asker query = record (started_session 0 query.pinned) {
   privates = query.privates;
-  made = 0;
   attributes = query.attributes;
   requesters = query.requesters;
-  standing = None;
 }
 
 -- why there is no standing query to ask or to end

@@ -119,7 +119,7 @@ impl Sessions {
     }
 
     /// Closes a session. Takes no memory.
-    pub fn close(&mut self, s: u32) -> Result<(), SessionFault>
+    fn close(&mut self, s: u32) -> Result<(), SessionFault>
         ensures accepted { OnOk result (fault_at self.old s (λ x. None) ≡ None) }
         ensures ok { OnOk result (self.new ≡ with_closed self.old s) }
         ensures err { OnErr result (self.new ≡ self.old) }
@@ -164,7 +164,7 @@ impl Sessions {
 
     /// Takes all attributes and all requesters of a session away; its private assertions and its version stay. Takes no
     /// memory.
-    pub fn clear(&mut self, s: u32) -> Result<(), SessionFault>
+    fn clear(&mut self, s: u32) -> Result<(), SessionFault>
         ensures accepted { OnOk result (fault_at self.old s (λ x. None) ≡ None) }
         ensures ok { OnOk result (self.new ≡ with_open_session self.old s cleared) }
         ensures err { OnErr result (self.new ≡ self.old) }
@@ -175,7 +175,7 @@ impl Sessions {
 
     /// Adds an assertion that this session alone asks with, and gives its id: how many were ever added to the session,
     /// with itself.
-    pub fn add_private(
+    fn add_private(
         &mut self,
         s: u32,
         text: &[u8],
@@ -197,7 +197,7 @@ impl Sessions {
     }
 
     /// Takes the private assertion of this id away from a session. Takes no memory.
-    pub fn retract(&mut self, s: u32, id: u32) -> Result<(), SessionFault>
+    fn retract(&mut self, s: u32, id: u32) -> Result<(), SessionFault>
         ensures accepted { OnOk result (fault_at self.old s (retract_fault id) ≡ None) }
         ensures ok { OnOk result (self.new ≡ with_open_session self.old s (take_private id)) }
         ensures err { OnErr result (self.new ≡ self.old) }
@@ -207,7 +207,7 @@ impl Sessions {
     }
 
     /// Gives an attribute of a session this value. A name that is there keeps its place, and a new one comes last.
-    pub fn set(&mut self, s: u32, name: &[u8], value: &[u8]) -> Result<(), SessionFault>
+    fn set(&mut self, s: u32, name: &[u8], value: &[u8]) -> Result<(), SessionFault>
         ensures accepted { OnOk result (fault_at self.old s (set_fault name.now value.now) ≡ None) }
         ensures ok { OnOk result (self.new ≡ with_open_session self.old s (set_attribute name.now value.now)) }
         ensures err { OnErr result (self.new ≡ self.old) }
@@ -218,7 +218,7 @@ impl Sessions {
     }
 
     /// Takes an attribute away from a session. Takes no memory.
-    pub fn unset(&mut self, s: u32, name: &[u8]) -> Result<(), SessionFault>
+    fn unset(&mut self, s: u32, name: &[u8]) -> Result<(), SessionFault>
         ensures accepted { OnOk result (fault_at self.old s (unset_fault name.now) ≡ None) }
         ensures ok { OnOk result (self.new ≡ with_open_session self.old s (unset_attribute name.now)) }
         ensures err { OnErr result (self.new ≡ self.old) }
@@ -229,7 +229,7 @@ impl Sessions {
 
     /// Enters a requester of a session by the principal's normal form. One that is there keeps its place, and another
     /// one comes last.
-    pub fn auth(&mut self, s: u32, principal: &[u8]) -> Result<(), SessionFault>
+    fn auth(&mut self, s: u32, principal: &[u8]) -> Result<(), SessionFault>
         ensures accepted { OnOk result (fault_at self.old s (auth_fault principal.now) ≡ None) }
         ensures ok { OnOk result (self.new ≡ with_open_session self.old s (add_requester principal.now)) }
         ensures err { OnErr result (self.new ≡ self.old) }
@@ -240,7 +240,7 @@ impl Sessions {
     }
 
     /// Takes a requester away from a session, who is found by the principal's normal form. Takes no memory.
-    pub fn unauth(&mut self, s: u32, principal: &[u8]) -> Result<(), SessionFault>
+    fn unauth(&mut self, s: u32, principal: &[u8]) -> Result<(), SessionFault>
         ensures accepted { OnOk result (fault_at self.old s (unauth_fault principal.now) ≡ None) }
         ensures ok { OnOk result (self.new ≡ with_open_session self.old s (take_requester principal.now)) }
         ensures err { OnErr result (self.new ≡ self.old) }
@@ -299,7 +299,7 @@ impl Sessions {
     }
 
     /// Ends the standing query of a session. Takes no memory.
-    pub fn unwatch(&mut self, s: u32) -> Result<(), SessionFault>
+    fn unwatch(&mut self, s: u32) -> Result<(), SessionFault>
         ensures accepted { OnOk result (fault_at self.old s standing_fault ≡ None) }
         ensures ok { OnOk result (self.new ≡ with_open_session self.old s end_standing) }
         ensures err { OnErr result (self.new ≡ self.old) }
@@ -383,13 +383,6 @@ impl Sessions {
         ensures { IsTrue result ↔ (self.now.sessions ≡ []) }
     {
         self.sessions.is_empty()
-    }
-
-    /// How many sessions were started.
-    pub fn started(&self) -> u32
-        ensures { result ≡ self.now.started }
-    {
-        self.started
     }
 }
 

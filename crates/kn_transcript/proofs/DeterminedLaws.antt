@@ -1,17 +1,12 @@
 -- What a permitted reply makes of history and state is told by its text.
-use Rattle.std.proofs.Common.{◌≡◌, ℕ, Bool, true, false, not, ◌&&◌, ◌==◌, List, [], ◌∷◌, ◌++◌, Option, None, refl, sym}
+use Rattle.std.proofs.Common.{◌≡◌, ℕ, Bool, true, false, not, ◌&&◌, ◌==◌, List, [], ◌∷◌, ◌++◌, refl, sym}
 use Rattle.std.proofs.Common.{ap, ◌∙◌}
-use Rattle.std.specs.Prelude.{option_map, option_and_then}
 use Rattle.kn_history.specs.declared.update.Update.{Update}
-use Rattle.kn_history.specs.History.{addition_by, removal_by}
-use Rattle.kn_history.specs.Batches.{batch_by}
 use Rattle.kn_reply.specs.Replies.{Reply, Done, Started, Number, PrivateAdded, Added, Value, Batched, PinnedAt, Log}
 use Rattle.kn_reply.specs.Replies.{News, Critical, No, NoMemory, reply_text}
-use Rattle.kn_daemon.specs.Shapes.{Shape, Calls, Updates, Looks, Asks, Controls, AtFault, AddText, DropId, ApplyBlock}
-use Rattle.kn_daemon.specs.Shapes.{Updating}
+use Rattle.kn_daemon.specs.Shapes.{Shape, Updates, AddText, DropId, ApplyBlock}
 use Rattle.kn_daemon.specs.Daemon.{DaemonConfig, State, Permits, Does, Answers, state_after}
-use Rattle.kn_daemon.specs.Linearized.{updating, update_by, added_text, dropped_id, applied_items}
-use Rattle.kn_transcript.specs.Followed.{IsPermitted, with_update, history_behind}
+use Rattle.kn_transcript.specs.Followed.{IsPermitted, history_behind}
 use Rattle.kn_transcript.specs.Accepted.{is_value}
 use Rattle.kn_transcript.specs.Progress.{begins_with_value}
 use Rattle.kn_transcript.proofs.ConfigChoices.{is_acceptance}
@@ -79,28 +74,6 @@ module _ (g : DaemonConfig) (past made : List Update) (old : State) (shape : Sha
   done_by (No refusal) new is p = absurd (cc is)
   done_by NoMemory new is p = absurd (cc is)
 
-no_update : (shape : Shape) (reply : Reply) → updating shape ≡ None → update_by 0 shape reply ≡ None
-no_update shape Done e = refl
-no_update shape (Started s version) e = refl
-no_update shape (Number version) e =
-    ap (λ (u : Option Updating). option_map (λ id. removal_by 0 id) (option_and_then dropped_id u)) e
-no_update shape (PrivateAdded k) e = refl
-no_update shape (Added k version) e =
-    ap (λ (u : Option Updating). option_map (λ text. addition_by 0 text k) (option_and_then added_text u)) e
-no_update shape (Value index name version rows) e = refl
-no_update shape (Batched first added version) e =
-    ap (λ (u : Option Updating). option_map (λ items. batch_by 0 first items) (option_and_then applied_items u)) e
-no_update shape (PinnedAt version newest) e = refl
-no_update shape (Log n history) e = refl
-no_update shape (News index name version) e = refl
-no_update shape (Critical index ids) e = refl
-no_update shape (No refusal) e = refl
-no_update shape NoMemory e = refl
-
-no_history : (past : List Update) (shape : Shape) (reply : Reply) → updating shape ≡ None
-    → history_behind past shape reply ≡ past
-no_history past shape reply e = ap (with_update past) (no_update shape reply e)
-
 -- two answers make the same history
 one_history : (past : List Update) (old : State) (shape : Shape) (a b : Reply)
     → Answers 0 (history_behind past shape a) old shape a → Answers 0 (history_behind past shape b) old shape b
@@ -113,15 +86,7 @@ one_history past old (Updates (DropId id)) a b is is' =
 one_history past old (Updates (ApplyBlock block)) a b is is' =
     ap (history_behind past (Updates (ApplyBlock block)))
     ((batched_only past block is.0 is.1 a is).0 ∙ sym (batched_only past block is.0 is.1 b is').0)
-one_history past old (Calls s call) a b is is' = no_history past (Calls s call) a refl
-    ∙ sym (no_history past (Calls s call) b refl)
-one_history past old (Looks look) a b is is' = no_history past (Looks look) a refl
-    ∙ sym (no_history past (Looks look) b refl)
-one_history past old (Asks question s names) a b is is' =
-    no_history past (Asks question s names) a refl ∙ sym (no_history past (Asks question s names) b refl)
-one_history past old (Controls control) a b is is' = no_history past (Controls control) a refl
-    ∙ sym (no_history past (Controls control) b refl)
-one_history past old (AtFault fault) a b is is' = absurd is
+one_history past old shape a b is is' = refl
 
 module _ (past : List Update) (old : State) (shape : Shape) (a b : Reply) (new other : State)
     (p : IsPermitted past old shape a new) (q : IsPermitted past old shape b other) (same : reply_text a ≡ reply_text b)

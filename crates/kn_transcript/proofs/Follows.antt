@@ -14,7 +14,7 @@ use Rattle.kn_session.specs.declared.call.Applied.TheVariants as A
 use Rattle.kn_session.specs.Calls.{Call, call_answer}
 use Rattle.kn_reply.specs.Replies.{Reply, Value}
 use Rattle.kn_daemon.specs.Shapes.{Shape, Calls, Updates, Looks, Asks, Controls, AtFault, AddText, DropId, ApplyBlock}
-use Rattle.kn_daemon.specs.Shapes.{ForNew, ForOpen, ForRetained, ForStanding, ForLog, WithProof, WithCritical, ToKeep}
+use Rattle.kn_daemon.specs.Shapes.{ForOpen, ForPin, ForPinAt, ForNews, ForLog, WithProof, WithCritical, ToKeep}
 use Rattle.kn_daemon.specs.Shapes.{shape_of}
 use Rattle.kn_env.specs.Values.{values_of}
 use Rattle.kn_daemon.specs.Daemon.{DaemonConfig, State, Permits, Answers, session_of, equations_of, reply_of_call}
@@ -79,10 +79,10 @@ value_asked past state (Calls s call) index name version rows is =
 value_asked past state (Updates (AddText text)) index name version rows is = absurd (let e = is.2 in cc e)
 value_asked past state (Updates (DropId k)) index name version rows is = absurd (let e = is.1 in cc e)
 value_asked past state (Updates (ApplyBlock block)) index name version rows is = absurd (let e = is.2.exact in cc e)
-value_asked past state (Looks ForNew) index name version rows is = absurd (cc is)
-value_asked past state (Looks (ForOpen s)) index name version rows is = absurd (cc is)
-value_asked past state (Looks (ForRetained s v)) index name version rows is = absurd (let e = is.1 in cc e)
-value_asked past state (Looks (ForStanding s)) index name version rows is = absurd (let e = is.news.exact in cc e)
+value_asked past state (Looks ForOpen) index name version rows is = absurd (cc is)
+value_asked past state (Looks (ForPin s)) index name version rows is = absurd (cc is)
+value_asked past state (Looks (ForPinAt s v)) index name version rows is = absurd (let e = is.1 in cc e)
+value_asked past state (Looks (ForNews s)) index name version rows is = absurd (let e = is.news.exact in cc e)
 value_asked past state (Looks (ForLog n)) index name version rows is = absurd (let e = is.1 in cc e)
 value_asked past state (Asks WithProof s names) index name version rows is =
     let same : index ≡ is.answer.level = ap (λ r. index_of r 0) is.answer.exact in

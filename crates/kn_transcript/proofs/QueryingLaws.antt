@@ -20,9 +20,8 @@ use Rattle.kn_daemon.specs.Shapes.{Asks, WithProof}
 use Rattle.kn_daemon.specs.Daemon.{DaemonConfig, State, IsAnswered, IsAnswer, in_session, refusal_of_names}
 use Rattle.kn_daemon.specs.Daemon.{refusal_of_question}
 use Rattle.kn_daemon.specs.Daemon.{session_of, own_refusal}
-use Rattle.kn_daemon.proofs.Updates.{no-update}
 use Rattle.kn_verify.proofs.Accepted.{answers_are_proved}
-use Rattle.kn_transcript.specs.Followed.{IsPermitted, with_update, history_behind}
+use Rattle.kn_transcript.specs.Followed.{IsPermitted, history_behind}
 use Rattle.kn_transcript.specs.Judging.{IsBehind, Judges}
 use Rattle.kn_transcript.specs.ValueReplies.{JudgesValue, ProvesAnswer}
 use Rattle.kn_transcript.proofs.ConfigChoices.{config_at, permits_cases, done_permitted}
@@ -99,7 +98,7 @@ filled names values named = by (between_commas names) named
 -- a question adds no update
 question_behind : (past : List Update) (s : ℕ) (names : List ℕ) (reply : Reply)
     → history_behind past (Asks WithProof s names) reply ≡ past
-question_behind past s names reply = ap (with_update past) (no-update 0 (Asks WithProof s names) reply refl)
+question_behind past s names reply = refl
 
 module _ (past : List Update) (now : State) (s : ℕ) (names left : List ℕ) {X E : Type 0} (result : Result X E)
     (view : X → Option (List ℕ)) where

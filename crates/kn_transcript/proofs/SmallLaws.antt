@@ -10,7 +10,7 @@ use Rattle.kn_reply.specs.Replies.{Reply, No, NoMemory}
 use Rattle.kn_session.specs.Sessions.{Session, started_session, pin_at, move_standing, watch_with}
 use Rattle.kn_session.specs.Calls.{Call, call_change, add_requester, is_named, after_call}
 use Rattle.kn_session.specs.Calls as C
-use Rattle.kn_daemon.specs.Shapes.{Look, ForNew, ForOpen, ForRetained, ForStanding, ForLog, Question, WithProof}
+use Rattle.kn_daemon.specs.Shapes.{Look, ForOpen, ForPin, ForPinAt, ForNews, ForLog, Question, WithProof}
 use Rattle.kn_daemon.specs.Shapes.{WithCritical, ToKeep, Control, ShowSecret, Leave, Shape, Calls, Looks, Asks}
 use Rattle.kn_daemon.specs.Shapes.{Controls, shape_of}
 use Rattle.kn_daemon.specs.Daemon.{DaemonConfig, State, first_state, pinned_to, state_after_look, state_keeping}
@@ -67,18 +67,18 @@ module _ (P Q : Session → Type 0) where
 
     all-looked : (state : State) (look : Look) → AllByRecursion P state.sessions
         → AllByRecursion Q (state_after_look past state look).sessions
-    all-looked state ForNew h =
+    all-looked state ForOpen h =
         all-push keeps.stays state.sessions (started_session (state.started + 1) past) h
         (keeps.starts (state.started + 1))
-    all-looked state (ForOpen s) h = all-map (λ x. x.number == s) (pin_at past) keeps.pins keeps.stays state.sessions h
-    all-looked state (ForRetained s version) h = by (retained_version past version) refl
+    all-looked state (ForPin s) h = all-map (λ x. x.number == s) (pin_at past) keeps.pins keeps.stays state.sessions h
+    all-looked state (ForPinAt s version) h = by (retained_version past version) refl
       where
         by : (found : Option (List Update)) → retained_version past version ≡ found
             → AllByRecursion Q (pinned_to state s found).sessions
         by None e = all-weaker keeps.stays state.sessions h
         by (Some v) e = all-map (λ x. x.number == s) (pin_at v) (λ x. keeps.pins_back version v x e) keeps.stays
             state.sessions h
-    all-looked state (ForStanding s) h =
+    all-looked state (ForNews s) h =
         all-map (λ x. x.number == s) (move_standing past) keeps.moves keeps.stays state.sessions h
     all-looked state (ForLog n) h = all-weaker keeps.stays state.sessions h
 
@@ -157,14 +157,14 @@ made-keeps n past = record {
 
 started-looked : (past : List Update) (state : State) (look : Look)
     → (state_after_look past state look).started ≤ state.started + 1
-started-looked past state ForNew = omega arith
-started-looked past state (ForOpen s) = omega arith
-started-looked past state (ForRetained s version) = by (retained_version past version)
+started-looked past state ForOpen = omega arith
+started-looked past state (ForPin s) = omega arith
+started-looked past state (ForPinAt s version) = by (retained_version past version)
   where
     by : (found : Option (List Update)) → (pinned_to state s found).started ≤ state.started + 1
     by None = omega arith
     by (Some v) = omega arith
-started-looked past state (ForStanding s) = omega arith
+started-looked past state (ForNews s) = omega arith
 started-looked past state (ForLog n) = omega arith
 
 started-questioned : (state : State) (question : Question) (s : ℕ) (names : List ℕ)

@@ -18,7 +18,7 @@ use Rattle.kn_reply.specs.Replies.{Number, Added, No, reply_text}
 use Rattle.kn_daemon.specs.Shapes.{AddText, DropId, Updates}
 use Rattle.kn_daemon.specs.Daemon.{DaemonConfig, State, own_refusal, refusal_of_update, refusal_of_text}
 use Rattle.kn_daemon.specs.Daemon.{refusal_of_store}
-use Rattle.kn_daemon.specs.Daemon.{refusal_of_verdict, refuse_if}
+use Rattle.kn_daemon.specs.Daemon.{refusal_at_verdict, refuse_if}
 use Rattle.kn_daemon.proofs.Reading.{fault-refuses, reading-goes_on}
 use Rattle.kn_transcript.specs.declared.fault.TheConstants.{AUTH_FAULTS}
 use Rattle.kn_transcript.specs.Judging.{IsBehind, Judges}
@@ -29,7 +29,7 @@ use Rattle.kn_transcript.proofs.CommittedLaws.{addition_follows, removal_follows
 use Rattle.kn_transcript.proofs.VerdictLaws.{NoneStands, RefusesOr, update_placed, update_made}
 
 -- a number that isn't 0 refuses
-pub verdict_refuses : (n : ℕ) → 1 ≤ n → refusal_of_verdict n ≡ Some (R.Auth n)
+pub verdict_refuses : (n : ℕ) → 1 ≤ n → refusal_at_verdict R.Auth n ≡ Some (R.Auth n)
 verdict_refuses n above =
     let other : (n == 0) ≡ false = grind (arith, nat_tests, above) in
     rw other refl
@@ -72,12 +72,13 @@ module _ (past : List Update) (old : State) (text left : List ℕ) (admin : old.
           ⊎ (fault_of text ≡ Some fault)
           → refusal_of_update g (AddText text) ≡ Some due
       refuses g due some (inl none) = absurd (let gone = is ∙ ap refusal_of_text none in cc (gone, some))
-      refuses g due some (inr faulty) = fault-refuses text fault (λ a. refusal_of_verdict (g.verdict text a)) faulty
+      refuses g due some (inr faulty) =
+          fault-refuses text fault (λ a. refusal_at_verdict R.Auth (g.verdict text a)) faulty
           ∙ sym is ∙ some
 
   module _ (a : Assertion) (reads : assertion_of text ≡ Some a) where
-    said : (g : DaemonConfig) → refusal_of_update g (AddText text) ≡ refusal_of_verdict (g.verdict text a)
-    said g = reading-goes_on text a (λ x. refusal_of_verdict (g.verdict text x)) reads
+    said : (g : DaemonConfig) → refusal_of_update g (AddText text) ≡ refusal_at_verdict R.Auth (g.verdict text a)
+    said g = reading-goes_on text a (λ x. refusal_at_verdict R.Auth (g.verdict text x)) reads
 
     -- the authenticator refuses the text
     pub add_unadmitted : (rest : List ℕ) → IsBehindVerdict None left (Some rest)
@@ -100,14 +101,14 @@ module _ (past : List Update) (old : State) (text left : List ℕ) (admin : old.
         by : (n : ℕ) → g.verdict text a ≡ n → g.verdict text a ≤ AUTH_FAULTS
             → ((told : Refusal) × IsVerdict told × (refusal_of_update g (AddText text) ≡ Some told))
             ⊎ (refusal_of_update g (AddText text) ≡ None)
-        by zero is within = inr (said g ∙ ap refusal_of_verdict is)
+        by zero is within = inr (said g ∙ ap (refusal_at_verdict R.Auth) is)
         by (suc n) is within =
             let some : 1 ≤ suc n = omega arith in
             let few : suc n ≤ AUTH_FAULTS = omega (arith, is, within) in
             inl (
               R.Auth (suc n),
               (suc n, (some, few), refl),
-              said g ∙ ap refusal_of_verdict is
+              said g ∙ ap (refusal_at_verdict R.Auth) is
                   ∙ verdict_refuses (suc n) some,
             )
 

@@ -8,8 +8,8 @@ use Rattle.kn_session.specs.Calls.{Call, Unwatch}
 use Rattle.kn_reply.specs.Replies.{Reply, Value, reply_text}
 use Rattle.kn_reply_reader.specs.Texts.{HasText}
 use Rattle.kn_daemon.specs.Daemon.{State, first_state}
-use Rattle.kn_daemon.specs.Shapes.{Shape, Calls, Updates, Looks, Asks, Controls, AtFault, ForNew, ForOpen, ForRetained}
-use Rattle.kn_daemon.specs.Shapes.{ForStanding, ForLog, Look, Question, WithProof, WithCritical, ToKeep, shape_of}
+use Rattle.kn_daemon.specs.Shapes.{Shape, Calls, Updates, Looks, Asks, Controls, AtFault, ForOpen, ForPin, ForPinAt}
+use Rattle.kn_daemon.specs.Shapes.{ForNews, ForLog, Look, Question, WithProof, WithCritical, ToKeep, shape_of}
 use Rattle.kn_daemon.specs.Played.{up_to_end}
 use Rattle.kn_transcript.specs.Followed.{Answered, Follows}
 
@@ -20,10 +20,10 @@ is_unwatch Unwatch = true
 is_unwatch call = false
 
 abbrev pub is_foreign_look : Look → Bool
-is_foreign_look ForNew = false
-is_foreign_look (ForOpen s) = false
-is_foreign_look (ForRetained s version) = false
-is_foreign_look (ForStanding s) = true
+is_foreign_look ForOpen = false
+is_foreign_look (ForPin s) = false
+is_foreign_look (ForPinAt s version) = false
+is_foreign_look (ForNews s) = true
 is_foreign_look (ForLog n) = true
 
 abbrev pub is_foreign_question : Question → Bool

@@ -156,7 +156,7 @@ fn may_lack_memory(shape: &Shape<'_>) -> bool
     match shape {
         Shape::Call { s: _, call } => call_may_lack_memory(call),
         Shape::Admin { .. } | Shape::Bye => false,
-        Shape::SetDigits { .. }
+        Shape::SetHex { .. }
         | Shape::Open
         | Shape::Pin { .. }
         | Shape::PinAt { .. }

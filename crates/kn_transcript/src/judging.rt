@@ -43,7 +43,7 @@ pub(crate) fn judge<'a>(
         Shape::Remove { k } => judge_drop(alloc, book, connection, k, left),
         Shape::Batch { block } => judge_batch(alloc, book, connection, block, left),
         Shape::Call { s, call } => judge_call(alloc, connection, s, call, left),
-        Shape::SetDigits { s, name, digits } => judge_set_hex(
+        Shape::SetHex { s, name, digits } => judge_set_hex(
             alloc, connection, s, name, digits, left,
         ),
         Shape::Query { s, values } => judge_query(alloc, connection, s, values, left),

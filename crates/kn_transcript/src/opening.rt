@@ -1,6 +1,6 @@
 //! Replies to requests that start a session, or pin one.
 ghost use Rattle.std.specs.Prelude.{IfOk, option_map};
-ghost use Rattle.kn_daemon.specs.Shapes.{Looks, ForNew, ForOpen, ForRetained};
+ghost use Rattle.kn_daemon.specs.Shapes.{Looks, ForOpen, ForPin, ForPinAt};
 ghost use Rattle.kn_transcript.specs.Judging.{state_of, HasRoom, Judges};
 
 use crate::connection::Connection;
@@ -19,7 +19,7 @@ pub(crate) fn judge_open<'a>(
     left: &'a [u8],
 ) -> Result<Option<&'a [u8]>, NoMemory>
     requires room { HasRoom (state_of connection.old) }
-    ensures judged { IfOk result (λ found. Judges book.now (state_of connection.old) (Looks ForNew) left.now
+    ensures judged { IfOk result (λ found. Judges book.now (state_of connection.old) (Looks ForOpen) left.now
         book.now (state_of connection.new) (option_map (λ rest. rest.now) found)) }
 {
     let count = connection.sessions.len();
@@ -45,7 +45,7 @@ pub(crate) fn judge_pin<'a>(
     s: u32,
     left: &'a [u8],
 ) -> Result<Option<&'a [u8]>, NoMemory>
-    ensures judged { IfOk result (λ found. Judges book.now (state_of connection.old) (Looks (ForOpen s)) left.now
+    ensures judged { IfOk result (λ found. Judges book.now (state_of connection.old) (Looks (ForPin s)) left.now
         book.now (state_of connection.new) (option_map (λ rest. rest.now) found)) }
 {
     let version = book.length();
@@ -67,7 +67,7 @@ pub(crate) fn judge_pin_at<'a>(
     version: u32,
     left: &'a [u8],
 ) -> Result<Option<&'a [u8]>, NoMemory>
-    ensures judged { IfOk result (λ found. Judges book.now (state_of connection.old) (Looks (ForRetained s version))
+    ensures judged { IfOk result (λ found. Judges book.now (state_of connection.old) (Looks (ForPinAt s version))
         left.now book.now (state_of connection.new) (option_map (λ rest. rest.now) found)) }
 {
     match connection.sessions.view(s) {

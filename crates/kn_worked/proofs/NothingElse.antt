@@ -20,9 +20,8 @@ use Rattle.kn_daemon.specs.declared.ended.Ended.TheVariants as E
 use Rattle.kn_daemon.specs.Shapes.{shape_of}
 use Rattle.kn_daemon.specs.Daemon as D
 use Rattle.kn_daemon.specs.Daemon.{DaemonConfig, State, first_state, Permits}
-use Rattle.kn_daemon.specs.Linearized.{Exchange, Along, InOrder, IsBehind, updating, update_by, requests_in, texts_in}
+use Rattle.kn_daemon.specs.Linearized.{Exchange, Along, InOrder, IsBehind, update_by, requests_in, texts_in}
 use Rattle.kn_daemon.specs.Served.{HasEnd}
-use Rattle.kn_daemon.proofs.Updates.{no-update}
 use Rattle.kn_worked.specs.Connections.{policy_history, alice_asks, alice_may, is_no_memory, AliceIsAnsweredSo}
 use Rattle.kn_worked.proofs.Levels.{two_values, policy_row, alice_equations, alice_session, alice_question}
 use Rattle.kn_worked.proofs.Asking.{after_open, after_auth}
@@ -215,9 +214,10 @@ requests_are (a ∷ b ∷ c ∷ rs) rest takes end =
 
 -- a request that makes no update stands no earlier than the one before it
 no_earlier : (caller low place : ℕ) (request known : Request) (reply : Reply) → request ≡ known
-    → updating (shape_of known) ≡ None → IsBehind (update_by caller (shape_of request) reply) low place → low ≤ place
+    → update_by caller (shape_of known) reply ≡ None → IsBehind (update_by caller (shape_of request) reply) low place
+    → low ≤ place
 no_earlier caller low place request known reply is none behind =
-    subst (λ (o : Option Update). IsBehind o low place) (no-update caller (shape_of known) reply none)
+    subst (λ (o : Option Update). IsBehind o low place) none
     (subst (λ (r : Request). IsBehind (update_by caller (shape_of r) reply) low place) is behind)
 
 -- a reply at the only place

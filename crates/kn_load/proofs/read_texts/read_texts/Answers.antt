@@ -8,4 +8,4 @@ loop-text-preserved c =
     let index = c.loop-text.text-index in
     let text = c.as_slice.result.now in
     let longer : take (index + 1) items ≡ take index items ++ text ∷ [] = grind (arith, common_steps) in
-    rw longer (c.in_ok-add_draft.ensures (take index items) text c.loop-text.invariant c.read_draft.ensures)
+    rw longer (c.in_ok-add_result.ensures (take index items) text c.loop-text.invariant c.read_result.ensures)

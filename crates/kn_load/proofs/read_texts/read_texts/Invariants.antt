@@ -1,5 +1,5 @@
 use Rattle.std.proofs.Common.{take}
-use Rattle.kn_load.specs.Drafting.{AreReadings}
+use Rattle.kn_load.specs.Readings.{AreReadings}
 use Rattle.kn_load.proofs.read_texts.read_texts.Given as goal
 
 abbrev pub invariant-loop-text : goal.invariant-loop-text

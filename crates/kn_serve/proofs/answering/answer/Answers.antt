@@ -10,9 +10,9 @@ returns-in-Call-clause-handled g c =
     handles_as _ _ _ _ _ _ _ c.shape_of.ensures.shape c.in-Call.is
     (told_handled _ _ _ _ _ _ _ _ (c.call.ensures.exact _))
 
-pub returns-in-SetDigits-clause-handled : goal.returns-in-SetDigits-clause-handled
-returns-in-SetDigits-clause-handled g c =
-    handles_as _ _ _ _ _ _ _ c.shape_of.ensures.shape c.in-SetDigits.is
+pub returns-in-SetHex-clause-handled : goal.returns-in-SetHex-clause-handled
+returns-in-SetHex-clause-handled g c =
+    handles_as _ _ _ _ _ _ _ c.shape_of.ensures.shape c.in-SetHex.is
     (told_handled _ _ _ _ _ _ _ _ (c.set_hex.ensures.exact _))
 
 pub returns-in-Query-clause-handled : goal.returns-in-Query-clause-handled
@@ -133,8 +133,8 @@ watch-requires g c = record {
 pub returns-in-Call-clause-last : goal.returns-in-Call-clause-last
 returns-in-Call-clause-last g c = none-last _ _ _ c.call.ensures.forgotten
 
-pub returns-in-SetDigits-clause-last : goal.returns-in-SetDigits-clause-last
-returns-in-SetDigits-clause-last g c = none-last _ _ _ c.set_hex.ensures.forgotten
+pub returns-in-SetHex-clause-last : goal.returns-in-SetHex-clause-last
+returns-in-SetHex-clause-last g c = none-last _ _ _ c.set_hex.ensures.forgotten
 
 pub returns-in-Open-clause-last : goal.returns-in-Open-clause-last
 returns-in-Open-clause-last g c = none-last _ _ _ c.open.ensures.forgotten

@@ -10,11 +10,11 @@ returns-in-Call c = record {
       c.in-Call.is (c.judge_call.ensures.judged c.args.book.now);
 }
 
-pub returns-in-SetDigits : goal.returns-in-SetDigits
-returns-in-SetDigits c = record {
+pub returns-in-SetHex : goal.returns-in-SetHex
+returns-in-SetHex c = record {
   judged = judged_as _ _ _ _ _ _ _ _ c.judge_set_hex.result (λ found. option_map (λ rest. rest.now) found)
       c.shape_of.ensures.shape
-      c.in-SetDigits.is (c.judge_set_hex.ensures.judged c.args.book.now);
+      c.in-SetHex.is (c.judge_set_hex.ensures.judged c.args.book.now);
 }
 
 pub returns-in-Query : goal.returns-in-Query

@@ -3,19 +3,19 @@ use Rattle.std.specs.Prelude.{ℕ, ◌≡◌, ◌⊎◌, List, [], ◌∷◌, �
 use Rattle.kn_fields.specs.declared.fault.ReadFault.{ReadFault}
 use Rattle.kn_fields.specs.declared.fault.ReadFault.TheVariants.{NoMemory}
 use Rattle.kn_assert.specs.Reading.{assertion_of, fault_of}
-use Rattle.kn_load.specs.declared.drafts.Draft.{Draft}
-use Rattle.kn_load.specs.declared.drafts.Draft.TheVariants.{Unread, Read, Faulty}
+use Rattle.kn_load.specs.declared.read_results.ReadResult.{ReadResult}
+use Rattle.kn_load.specs.declared.read_results.ReadResult.TheVariants.{Unread, Read, Faulty}
 use Rattle.kn_load.specs.declared.read_texts.ReadTexts.{ReadTexts}
 
 -- the text has this fault, or memory ran out
 abbrev pub IsFaultyFor : List ℕ → ReadFault → Type 0
 IsFaultyFor text fault = (fault ≡ NoMemory) ⊎ (fault_of text ≡ Some fault)
 
--- the draft has the text with its reading, or the text's first fault, or memory ran out
-abbrev pub IsDraftOf : List ℕ → Draft → Type 0
-IsDraftOf text Unread = ⊥
-IsDraftOf text (Read ready) = (ready ≡ text) × IsSome (assertion_of text)
-IsDraftOf text (Faulty fault) = IsFaultyFor text fault
+-- what was read is the text with its reading, or the text's first fault, or memory ran out
+abbrev pub IsReadResultOf : List ℕ → ReadResult → Type 0
+IsReadResultOf text Unread = ⊥
+IsReadResultOf text (Read ready) = (ready ≡ text) × IsSome (assertion_of text)
+IsReadResultOf text (Faulty fault) = IsFaultyFor text fault
 
 -- the first of these texts has this fault, or memory ran out
 abbrev pub IsFirstFaulty : List (List ℕ) → ReadFault → Type 0

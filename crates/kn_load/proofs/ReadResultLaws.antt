@@ -6,22 +6,23 @@ use Rattle.std.specs.List.{AllZip}
 use Rattle.std.proofs.lemmas.List.{take-map, drop-map, drop-take, take-append-drop, length-take-le, length-map}
 use Rattle.kn_base.specs.declared.span.Span.{Span}
 use Rattle.kn_files.specs.Pieces.{spans_of, bytes_at, pieces_of}
-use Rattle.kn_load.specs.declared.drafts.Draft.{Draft}
+use Rattle.kn_load.specs.declared.read_results.ReadResult.{ReadResult}
 use Rattle.kn_load.specs.declared.read_texts.ReadTexts.{ReadTexts}
-use Rattle.kn_load.specs.Drafting.{IsDraftOf, AreReadings}
+use Rattle.kn_load.specs.Readings.{IsReadResultOf, AreReadings}
 
--- drafts at the places of some spans are the drafts of the texts there
-pub drafts_of_spans : (text_at : Span → List ℕ) (spans : List Span) (drafts : List Draft) → length drafts ≡ length spans
-    → ((i : ℕ) (s : Span) (d : Draft) → i < length spans
-    → IsDraftOf (text_at (slice_index_or spans i s)) (slice_index_or drafts i d))
-    → AllZip IsDraftOf (map text_at spans) drafts
-drafts_of_spans text_at [] [] long each = tt
-drafts_of_spans text_at [] (d ∷ drafts) long each = absurd (omega (arith, long))
-drafts_of_spans text_at (s ∷ spans) [] long each = absurd (omega (arith, long))
-drafts_of_spans text_at (s ∷ spans) (d ∷ drafts) long each =
-    let rest : length drafts ≡ length spans = omega (arith, long) in (
+-- results at the places of some spans are the results of the texts there
+pub results_of_spans : (text_at : Span → List ℕ) (spans : List Span) (results : List ReadResult)
+    → length results ≡ length spans
+    → ((i : ℕ) (s : Span) (d : ReadResult) → i < length spans
+    → IsReadResultOf (text_at (slice_index_or spans i s)) (slice_index_or results i d))
+    → AllZip IsReadResultOf (map text_at spans) results
+results_of_spans text_at [] [] long each = tt
+results_of_spans text_at [] (d ∷ results) long each = absurd (omega (arith, long))
+results_of_spans text_at (s ∷ spans) [] long each = absurd (omega (arith, long))
+results_of_spans text_at (s ∷ spans) (d ∷ results) long each =
+    let rest : length results ≡ length spans = omega (arith, long) in (
       each 0 s d (omega arith),
-      drafts_of_spans text_at spans drafts rest (λ i s d lt. each (suc i) s d (omega (arith, lt))),
+      results_of_spans text_at spans results rest (λ i s d lt. each (suc i) s d (omega (arith, lt))),
     )
 
 -- these are the readings of the texts from place n up to another, which stand between those in front of them and those

@@ -2,7 +2,7 @@
 ghost use Rattle.std.specs.Prelude.{◌≡◌, ◌<◌, length, vec_len, All, IfOk, map, slice_index_or};
 ghost use Rattle.std.specs.List.{AllZip};
 ghost use Rattle.kn_files.specs.Pieces.{bytes_at, IsWithin};
-ghost use Rattle.kn_load.specs.Drafting.{IsDraftOf};
+ghost use Rattle.kn_load.specs.Readings.{IsReadResultOf};
 
 use kn_assert::{ReadFault, read};
 use kn_base::{NoMemory, Span};
@@ -23,7 +23,7 @@ const MEMORY_A_BYTE: usize = 12;
 
 /// What was read of a text.
 #[derive(Drop)]
-pub(crate) enum Draft {
+pub(crate) enum ReadResult {
     /// Nothing yet.
     Unread,
     /// The text with its reading.
@@ -33,45 +33,45 @@ pub(crate) enum Draft {
 }
 
 /// What is read of a text.
-pub(crate) fn read_draft(alloc: Global, text: &[u8]) -> Draft
-    ensures { IsDraftOf text.now result }
+pub(crate) fn read_result(alloc: Global, text: &[u8]) -> ReadResult
+    ensures { IsReadResultOf text.now result }
 {
     let assertion = match read(alloc, text) {
         Ok(assertion) => assertion,
-        Err(fault) => return Draft::Faulty(fault),
+        Err(fault) => return ReadResult::Faulty(fault),
     };
     match Ready::of(alloc, text, assertion) {
-        Ok(ready) => Draft::Read(ready),
-        Err(NoMemory) => Draft::Faulty(ReadFault::NoMemory),
+        Ok(ready) => ReadResult::Read(ready),
+        Err(NoMemory) => ReadResult::Faulty(ReadFault::NoMemory),
     }
 }
 
 /// What is read of the texts at these spans of a file, in their order.
-pub(crate) fn read_drafts<R: Threads + Sync>(
+pub(crate) fn read_results<R: Threads + Sync>(
     rt: &R,
     alloc: Global,
     file: &[u8],
     spans: &[Span],
-) -> Result<Vec<Draft>, NoMemory>
+) -> Result<Vec<ReadResult>, NoMemory>
     requires { All (IsWithin file.now) spans.now }
-    ensures { IfOk result (λ drafts. AllZip IsDraftOf (map (bytes_at file.now) spans.now) drafts.items) }
+    ensures { IfOk result (λ results. AllZip IsReadResultOf (map (bytes_at file.now) spans.now) results.items) }
 {
-    let mut drafts = unread_drafts(alloc, spans.len())?;
-    read_all(rt, alloc, file, spans, drafts.as_mut_slice());
-    Ok(drafts)
+    let mut results = unread_results(alloc, spans.len())?;
+    read_all(rt, alloc, file, spans, results.as_mut_slice());
+    Ok(results)
 }
 
-/// Reads the texts at these spans of a file, each into the draft at its place.
+/// Reads the texts at these spans of a file, each into the result at its place.
 fn read_all<R: Threads + Sync>(
     rt: &R,
     alloc: Global,
     file: &[u8],
     spans: &[Span],
-    drafts: &mut [Draft],
+    results: &mut [ReadResult],
 )
-    requires count { length drafts.old ≡ length spans.now }
+    requires count { length results.old ≡ length spans.now }
     requires within { All (IsWithin file.now) spans.now }
-    ensures { AllZip IsDraftOf (map (bytes_at file.now) spans.now) drafts.new }
+    ensures { AllZip IsReadResultOf (map (bytes_at file.now) spans.now) results.new }
 {
     let bytes = extent_of(spans);
     let threads = (bytes / BYTES_A_READER).clamp(1, READERS);
@@ -81,14 +81,14 @@ fn read_all<R: Threads + Sync>(
     fetch_memory(alloc, memory);
     thread::for_each_mut(
         rt,
-        drafts,
+        results,
         threads,
-        &|place, draft: &mut Draft| {
+        &|place, found: &mut ReadResult| {
             let begins_share = place % share == 0;
             if begins_share {
                 fetch_memory(alloc, memory);
             }
-            *draft = read_draft(alloc, text_at(file, spans[place]));
+            *found = read_result(alloc, text_at(file, spans[place]));
         },
     );
 }
@@ -111,13 +111,13 @@ fn fetch_memory(alloc: Global, bytes: usize) {
     let _memory: Result<Vec<u8>, _> = Vec::with_capacity(alloc, bytes);
 }
 
-/// So many drafts of which nothing is read.
-fn unread_drafts(alloc: Global, count: usize) -> Result<Vec<Draft>, NoMemory>
-    ensures { IfOk result (λ drafts. vec_len drafts ≡ count) }
+/// So many results before anything is read.
+fn unread_results(alloc: Global, count: usize) -> Result<Vec<ReadResult>, NoMemory>
+    ensures { IfOk result (λ results. vec_len results ≡ count) }
 {
-    let mut drafts = Vec::new(alloc);
-    match drafts.resize_with(count, || Draft::Unread) {
-        Ok(()) => Ok(drafts),
+    let mut results = Vec::new(alloc);
+    match results.resize_with(count, || ReadResult::Unread) {
+        Ok(()) => Ok(results),
         Err(_) => Err(NoMemory),
     }
 }
