@@ -22,7 +22,3 @@ pub kept-has : (P : SharedBase → Type 0) (kept : KeptBases) (shared : SharedBa
     → IsKeptIn kept shared → P shared
 kept-has P kept shared each (inl is) = subst (λ o. IfSome o P) is each.0
 kept-has P kept shared each (inr is) = subst (λ o. IfSome o P) is each.1
-
-itself : (o : Option SharedBase) → IfSome o (λ shared. o ≡ Some shared)
-itself None = tt
-itself (Some shared) = refl
