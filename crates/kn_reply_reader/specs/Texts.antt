@@ -10,8 +10,8 @@ use Rattle.kn_history.specs.declared.update.Change.TheVariants.{Add, Remove}
 use Rattle.kn_history.specs.declared.update.Numbered.{Numbered}
 use Rattle.kn_history.specs.declared.update.Update.{Update}
 use Rattle.kn_reply.specs.Logs.{log_part}
-use Rattle.kn_reply.specs.Replies.{Reply, Done, Started, Number, PrivateAdded, Added, Value, Batched, PinnedAt, Log}
-use Rattle.kn_reply.specs.Replies.{News, Critical, No, NoMemory, reply_text}
+use Rattle.kn_reply.specs.Replies.{Reply, Value, Log}
+use Rattle.kn_reply.specs.Replies.{News, reply_text}
 
 -- a VALUE reply whose name and numbers its reader reads
 pub record IsReadValue (index : ℕ) (name : List ℕ) (version : ℕ) (rows : List NamedRow) : Type 0 where
@@ -41,19 +41,10 @@ pub record IsReadLog (n : ℕ) (history : List Update) : Type 0 where
 
 -- the text of this reply is one that replies may have
 abbrev pub HasText : Reply → Type 0
-HasText Done = ⊤
-HasText (Started s version) = ⊤
-HasText (Number version) = ⊤
-HasText (PrivateAdded k) = ⊤
-HasText (Added k version) = ⊤
 HasText (Value index name version rows) = IsReadValue index name version rows
-HasText (Batched first added version) = ⊤
-HasText (PinnedAt version newest) = ⊤
 HasText (Log n history) = IsReadLog n history
 HasText (News index name version) = is_name name ≡ true
-HasText (Critical index ids) = ⊤
-HasText (No refusal) = ⊤
-HasText NoMemory = ⊤
+HasText reply = ⊤
 
 -- the bytes begin with the text of this reply
 pub record BeginsWith (left : List ℕ) (reply : Reply) : Type 0 where

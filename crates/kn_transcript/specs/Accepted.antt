@@ -4,40 +4,23 @@ use Rattle.std.specs.List.{list_any}
 use Rattle.kn_base.specs.declared.limits.TheConstants.{REQUESTS}
 use Rattle.kn_history.specs.declared.update.Update.{Update}
 use Rattle.kn_wire.specs.Requests.{Request, AreRequests}
-use Rattle.kn_session.specs.Calls.{Call, Unwatch}
+use Rattle.kn_session.specs.Calls.{Unwatch}
 use Rattle.kn_reply.specs.Replies.{Reply, Value, reply_text}
 use Rattle.kn_reply_reader.specs.Texts.{HasText}
 use Rattle.kn_daemon.specs.Daemon.{State, first_state}
-use Rattle.kn_daemon.specs.Shapes.{Shape, Calls, Updates, Looks, Asks, Controls, AtFault, ForOpen, ForPin, ForPinAt}
-use Rattle.kn_daemon.specs.Shapes.{ForNews, ForLog, Look, Question, WithProof, WithCritical, ToKeep, shape_of}
+use Rattle.kn_daemon.specs.Shapes.{ForNews, ForLog, WithCritical, ToKeep, Shape, Calls, Looks, Asks, shape_of}
 use Rattle.kn_daemon.specs.Played.{up_to_end}
 use Rattle.kn_transcript.specs.Followed.{Answered, Follows}
 
 -- What a transcript doesn't judge: standing queries, critical assertions, and updates that are handed on.
 
-abbrev pub is_unwatch : Call → Bool
-is_unwatch Unwatch = true
-is_unwatch call = false
-
-abbrev pub is_foreign_look : Look → Bool
-is_foreign_look ForOpen = false
-is_foreign_look (ForPin s) = false
-is_foreign_look (ForPinAt s version) = false
-is_foreign_look (ForNews s) = true
-is_foreign_look (ForLog n) = true
-
-abbrev pub is_foreign_question : Question → Bool
-is_foreign_question WithProof = false
-is_foreign_question WithCritical = true
-is_foreign_question ToKeep = true
-
 abbrev pub is_foreign_shape : Shape → Bool
-is_foreign_shape (Calls s call) = is_unwatch call
-is_foreign_shape (Updates update) = false
-is_foreign_shape (Looks look) = is_foreign_look look
-is_foreign_shape (Asks question s names) = is_foreign_question question
-is_foreign_shape (Controls control) = false
-is_foreign_shape (AtFault fault) = false
+is_foreign_shape (Calls s Unwatch) = true
+is_foreign_shape (Looks (ForNews s)) = true
+is_foreign_shape (Looks (ForLog n)) = true
+is_foreign_shape (Asks ToKeep s names) = true
+is_foreign_shape (Asks WithCritical s names) = true
+is_foreign_shape shape = false
 
 -- a request that a transcript doesn't judge
 abbrev pub is_foreign : Request → Bool
