@@ -83,7 +83,7 @@ pub fn shape_of(request: Request<'_>) -> Shape<'_>
     ensures form { IsFormed result }
 {
     match request {
-        Request::Start => Shape::Open,
+        Request::Open => Shape::Open,
         Request::Close { s } => Shape::Call {
             s,
             call: Call::Close,
@@ -129,7 +129,7 @@ pub fn shape_of(request: Request<'_>) -> Shape<'_>
         Request::Critical { s, values } => Shape::Critical { s, values },
         Request::Admin { digits } => Shape::Admin { digits },
         Request::Add { block } => Shape::Add { block },
-        Request::Remove { k } => Shape::Remove { k },
+        Request::Drop { k } => Shape::Remove { k },
         Request::Batch { block } => Shape::Batch { block },
         Request::Log { n } => Shape::Log { n },
         Request::Bye => Shape::Bye,

@@ -4,11 +4,9 @@ use Rattle.std.proofs.Common.{refl, sym, ap, ◌∙◌, codes}
 use Rattle.std.specs.List.{before_first}
 use Rattle.kn_base.specs.Decimal.{decimal_of}
 use Rattle.kn_wire.specs.Lines.{blocked_of}
-use Rattle.kn_wire.specs.Requests.{Request, Add, Assert, Batch, Line, WithBlock, word_of, behind_space, is_space}
-use Rattle.kn_wire.specs.Requests.{line_of}
-use Rattle.kn_wire.specs.Requests.{line_of_word, or_malformed}
-use Rattle.kn_wire.specs.declared.word.Word.TheVariants as W
-use Rattle.kn_wire.proofs.LineFits.{NamesNone, whole-line, word_spelled}
+use Rattle.kn_wire.specs.Requests.{Request, Add, Assert, Batch, Line, WithBlock, behind_space, is_space, line_of}
+use Rattle.kn_wire.specs.Requests.{number_and_rest, or_malformed, sized, with_number}
+use Rattle.kn_wire.proofs.LineFits.{NamesNone, whole-line}
 use Rattle.kn_wire.proofs.Splits.{split_line}
 
 -- A line that begins with the command of a block.
@@ -27,30 +25,22 @@ blocked-and_then : {A : Type 0} (o : Option A) (f : A → Option Line) → ((a :
 blocked-and_then None f each = refl
 blocked-and_then (Some a) f each = each a
 
-add_blocked : (text : List ℕ) → AllBlocked (line_of_word W.Add (Some text))
-add_blocked text = blocked-map (decimal_of text) (λ n. n) (λ n. Add)
+sized_blocked : (request : List ℕ → Request) (text : List ℕ) → AllBlocked (sized request text)
+sized_blocked request text = blocked-map (decimal_of text) (λ n. n) (λ n. request)
 
-batch_blocked : (text : List ℕ) → AllBlocked (line_of_word W.Batch (Some text))
-batch_blocked text = blocked-map (decimal_of text) (λ n. n) (λ n. Batch)
-
-assert_blocked : (text : List ℕ) → AllBlocked (line_of_word W.Assert (Some text))
-assert_blocked text =
-    blocked-and_then (behind_space text) _
-    (λ rest. blocked-and_then (decimal_of (before_first is_space text)) _
-    (λ s. blocked-map (decimal_of rest) (λ n. n) (λ n. Assert s)))
+assert_blocked : (text : List ℕ) → AllBlocked (with_number (λ s. sized (Assert s)) text)
+assert_blocked text = blocked-and_then (number_and_rest text) _ (λ parts. sized_blocked (Assert parts.0) parts.1)
 
 -- what follows the command is what the line names
-pub names_add : (line text : List ℕ) → line ≡ codes "ADD " ++ text
-    → line_of_word W.Add (Some text) ≡ blocked_of (line_of line)
-names_add line text is = add_blocked text ∙ ap (λ l. blocked_of (line_of l)) (sym is)
+pub names_add : (line text : List ℕ) → line ≡ codes "ADD " ++ text → sized Add text ≡ blocked_of (line_of line)
+names_add line text is = sized_blocked Add text ∙ ap (λ l. blocked_of (line_of l)) (sym is)
 
 pub names_assert : (line text : List ℕ) → line ≡ codes "ASSERT " ++ text
-    → line_of_word W.Assert (Some text) ≡ blocked_of (line_of line)
+    → with_number (λ s. sized (Assert s)) text ≡ blocked_of (line_of line)
 names_assert line text is = assert_blocked text ∙ ap (λ l. blocked_of (line_of l)) (sym is)
 
-pub names_batch : (line text : List ℕ) → line ≡ codes "BATCH " ++ text
-    → line_of_word W.Batch (Some text) ≡ blocked_of (line_of line)
-names_batch line text is = batch_blocked text ∙ ap (λ l. blocked_of (line_of l)) (sym is)
+pub names_batch : (line text : List ℕ) → line ≡ codes "BATCH " ++ text → sized Batch text ≡ blocked_of (line_of line)
+names_batch line text is = sized_blocked Batch text ∙ ap (λ l. blocked_of (line_of l)) (sym is)
 
 -- A line that doesn't.
 
@@ -62,15 +52,12 @@ pub names_none : (line : List ℕ) → IsNoCommand (codes "ADD") line → IsNoCo
     → IsNoCommand (codes "BATCH") line → None ≡ blocked_of (line_of line)
 names_none line no_add no_assert no_batch = whole-line line (by (behind_space line) refl)
   where
-    by : (rest : Option (List ℕ)) → behind_space line ≡ rest → NamesNone (word_of (before_first is_space line)) rest
+    by : (rest : Option (List ℕ)) → behind_space line ≡ rest → NamesNone (before_first is_space line) rest
     by None behind = inl refl
     by (Some rest) behind =
         let whole = split_line line rest behind in
         inr (
-          (λ is. no_add rest (whole
-              ∙ ap (λ (w : List ℕ). w ++ 32 ∷ rest) (word_spelled (before_first is_space line) W.Add is))),
-          (λ is. no_assert rest (whole
-              ∙ ap (λ (w : List ℕ). w ++ 32 ∷ rest) (word_spelled (before_first is_space line) W.Assert is))),
-          (λ is. no_batch rest (whole
-              ∙ ap (λ (w : List ℕ). w ++ 32 ∷ rest) (word_spelled (before_first is_space line) W.Batch is))),
+          (λ is. no_add rest (whole ∙ ap (λ (w : List ℕ). w ++ 32 ∷ rest) is)),
+          (λ is. no_assert rest (whole ∙ ap (λ (w : List ℕ). w ++ 32 ∷ rest) is)),
+          (λ is. no_batch rest (whole ∙ ap (λ (w : List ℕ). w ++ 32 ∷ rest) is)),
         )

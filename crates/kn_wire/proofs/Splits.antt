@@ -1,16 +1,13 @@
 -- Where a text is cut.
-use Rattle.std.proofs.Common.{◌≡◌, ◌≢◌, ◌≤◌, ◌<◌, ◌+◌, ◌==◌, ℕ, suc, Bool, true, false, not, cond, Option, Some, None}
-use Rattle.std.proofs.Common.{option_and_then, option_map, List, [], ◌∷◌, ◌++◌, length, get_or, take, drop, refl, sym}
+use Rattle.std.proofs.Common.{◌≡◌, ◌≢◌, ◌≤◌, ◌<◌, ◌+◌, ◌==◌, ℕ, suc, Bool, true, false, not, cond, Some, None}
+use Rattle.std.proofs.Common.{List, [], ◌∷◌, ◌++◌, length, get_or, take, drop, refl, sym}
 use Rattle.std.proofs.Common.{ap, ◌∙◌, arith, eq-eqb, ltb-true, ltb-false, lt-ltb, nat_lt, ◌&&◌}
 use Rattle.std.specs.Prelude.{if◌then◌else◌}
 use Rattle.std.specs.List.{list_all, before_first, after_first, position_or_len}
 use Rattle.std.proofs.lemmas.List.{drop_all}
 use Rattle.std.proofs.lemmas.Bool.Decides.{Decides-eqb}
 use Rattle.std.proofs.lemmas.List.Sums.{prefix_len-le-length, passes_at_first, fails_before_first}
-use Rattle.std.proofs.lemmas.Option.{same_Some}
-use Rattle.kn_base.specs.Decimal.{decimal_of}
-use Rattle.kn_wire.specs.Requests.{Line, behind_space, is_space, is_return, is_word, with_number, without_return}
-use Rattle.kn_wire.specs.Lines.{name_and_rest, number_and_rest}
+use Rattle.kn_wire.specs.Requests.{behind_space, is_space, is_return, is_word, name_and_rest, without_return}
 
 -- the place of a byte is behind the bytes that are none
 pub place_further : (text : List ℕ) (wanted at : ℕ) → at ≤ position_or_len (λ byte. byte == wanted) text
@@ -164,21 +161,6 @@ name_alone text name e behind some =
     let size : length name ≡ length (before_first is_space text) = ap length e in
     name_and_rest_is text (omega arith) ∙ ap (λ n. Some (n, after_first is_space text)) (sym e)
     ∙ ap (λ r. Some (name, r)) (nothing_behind text (sym behind))
-
-abbrev pair : ℕ → List ℕ → ℕ × List ℕ
-pair n rest = (n, rest)
-
--- a text of a number, a space and a rest gives the line of these two
-pub with_number-found : (text : List ℕ) (n : ℕ) (rest : List ℕ) (f : ℕ → List ℕ → Option Line)
-    → Some (pair n rest) ≡ number_and_rest text → with_number text f ≡ f n rest
-with_number-found text n rest f e = by (behind_space text) (decimal_of (before_first is_space text)) e
-  where
-    by : (behind : Option (List ℕ)) (number : Option ℕ)
-        → Some (pair n rest) ≡ option_and_then (λ r. option_map (λ m. pair m r) number) behind
-        → option_and_then (λ r. option_and_then (λ m. f m r) number) behind ≡ f n rest
-    by None number e = cc
-    by (Some r) None e = cc
-    by (Some r) (Some m) e = ap (λ (p : ℕ × List ℕ). f p.0 p.1) (sym (same_Some (pair n rest) (pair m r) e))
 
 -- a line is its first word, a space and what follows
 pub split_line : (line rest : List ℕ) → behind_space line ≡ Some rest → line ≡ before_first is_space line ++ 32 ∷ rest

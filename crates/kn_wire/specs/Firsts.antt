@@ -5,10 +5,10 @@ use Rattle.kn_wire.specs.declared.fault.WireFault.TheVariants.{Block}
 use Rattle.kn_wire.specs.declared.first.First.{First}
 use Rattle.kn_wire.specs.declared.first.First.TheVariants as F
 use Rattle.kn_wire.specs.declared.head.Head.{Head}
-use Rattle.kn_wire.specs.declared.part.Part.{Part}
+use Rattle.kn_wire.specs.declared.byte_range.ByteRange.{ByteRange}
 use Rattle.kn_wire.specs.Feeding.{Held, Bytes, Shut, next_of}
 use Rattle.kn_wire.specs.Lines.{with_block}
-use Rattle.kn_wire.specs.Parts.{part_of}
+use Rattle.kn_wire.specs.ByteRanges.{bytes_in}
 use Rattle.kn_wire.specs.Requests as D
 use Rattle.kn_wire.specs.Requests.{first_of, line_length, line_of, without_return}
 
@@ -17,15 +17,15 @@ abbrev pub HasNoneBelow : ℕ → List ℕ → Type 0
 HasNoneBelow needed text = (more : List ℕ) → length (text ++ more) < needed → is_some (first_of (text ++ more)) ≡ false
 
 -- the next request is that of this line, which names no block
-pub record SpendsLine (old : Held) (bytes : List ℕ) (line : Part) (new : Held) : Type 0 where
+pub record SpendsLine (old : Held) (bytes : List ℕ) (line : ByteRange) (new : Held) : Type 0 where
   pub request : D.Request
-  pub names : line_of (part_of line bytes) ≡ D.Whole request
+  pub names : line_of (bytes_in line bytes) ≡ D.Whole request
   pub next : next_of old ≡ Some (request, new)
   pub within : line.start + line.len ≤ length bytes
 
 -- the next request is that of this head and this block
-pub record SpendsBlock (old : Held) (bytes : List ℕ) (head : Head) (block : Part) (new : Held) : Type 0 where
-  pub next : next_of old ≡ Some (with_block head (part_of block bytes), new)
+pub record SpendsBlock (old : Held) (bytes : List ℕ) (head : Head) (block : ByteRange) (new : Held) : Type 0 where
+  pub next : next_of old ≡ Some (with_block head (bytes_in block bytes), new)
   pub within : block.start + block.len ≤ length bytes
   pub short : block.len ≤ ASSERTION_BYTES
 

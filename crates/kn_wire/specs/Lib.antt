@@ -7,7 +7,7 @@ pub mod Laws
 pub mod Wired
 pub mod ItemsInCode
 pub mod Lines
-pub mod Parts
+pub mod ByteRanges
 pub mod Firsts
 pub mod Cursors
 pub mod Filling

@@ -1,12 +1,12 @@
 -- What the parts of a line in code stand for.
-use Rattle.std.specs.Prelude.{ℕ, List, Option, Some, None, option_map, option_and_then, if◌then◌else◌}
-use Rattle.std.specs.List.{before_first, after_first}
-use Rattle.kn_base.specs.Decimal.{decimal_of}
+use Rattle.std.specs.Prelude.{ℕ, List, codes, Option, Some, None}
 use Rattle.kn_wire.specs.declared.head.Head.{Head}
 use Rattle.kn_wire.specs.declared.head.Head.TheVariants as H
+use Rattle.kn_wire.specs.declared.request.Request.{Request}
 use Rattle.kn_wire.specs.declared.word.Word.{Word}
+use Rattle.kn_wire.specs.declared.word.Word.TheVariants as W
 use Rattle.kn_wire.specs.Requests as D
-use Rattle.kn_wire.specs.Requests.{is_space, behind_space, is_word}
+use Rattle.kn_wire.specs.Wired.{request_of}
 
 -- the request of a head and its block
 abbrev pub with_block : Head → List ℕ → D.Request
@@ -23,22 +23,31 @@ abbrev pub blocked_of : D.Line → Option D.Line
 blocked_of (D.Whole request) = None
 blocked_of (D.WithBlock n request) = Some (D.WithBlock n request)
 
--- the request that a line names without a block
-abbrev pub whole_of : D.Line → Option D.Request
-whole_of (D.Whole request) = Some request
-whole_of (D.WithBlock n request) = None
+-- the line of a request that needs no block
+abbrev pub line_of_request : Request → D.Line
+line_of_request request = D.Whole (request_of request)
 
--- the request that a command word and what follows it spell without a block
-abbrev pub request_of_word : Word → Option (List ℕ) → Option D.Request
-request_of_word word rest = option_and_then whole_of (D.line_of_word word rest)
-
--- a number and a space, and what follows
-abbrev pub number_and_rest : List ℕ → Option (ℕ × List ℕ)
-number_and_rest text =
-    option_and_then (λ rest. option_map (λ n. (n, rest)) (decimal_of (before_first is_space text))) (behind_space text)
-
--- a word of at least one byte, and what follows its space, nothing without one
-abbrev pub name_and_rest : List ℕ → Option (List ℕ × List ℕ)
-name_and_rest text =
-    if is_word (before_first is_space text) then Some (before_first is_space text, after_first is_space text)
-    else None
+-- the text of a command word
+abbrev pub word_text : Word → List ℕ
+word_text W.Open = codes "OPEN"
+word_text W.Close = codes "CLOSE"
+word_text W.Pin = codes "PIN"
+word_text W.Assert = codes "ASSERT"
+word_text W.Retract = codes "RETRACT"
+word_text W.Set = codes "SET"
+word_text W.SetHex = codes "SETX"
+word_text W.Unset = codes "UNSET"
+word_text W.Auth = codes "AUTH"
+word_text W.Unauth = codes "UNAUTH"
+word_text W.Clear = codes "CLEAR"
+word_text W.Query = codes "QUERY"
+word_text W.Watch = codes "WATCH"
+word_text W.News = codes "NEWS"
+word_text W.Unwatch = codes "UNWATCH"
+word_text W.Critical = codes "CRITICAL"
+word_text W.Admin = codes "ADMIN"
+word_text W.Add = codes "ADD"
+word_text W.Drop = codes "DROP"
+word_text W.Batch = codes "BATCH"
+word_text W.Log = codes "LOG"
+word_text W.Bye = codes "BYE"

@@ -1,7 +1,7 @@
 -- The requests of a byte stream (keynoted's own line protocol).
-use Rattle.std.specs.Prelude.{ℕ, ◌≡◌, ◌+◌, ◌%◌, Bool, true, ◌==◌, ◌&&◌, not, nat_le, nat_lt, if◌then◌else◌}
+use Rattle.std.specs.Prelude.{ℕ, ◌≡◌, ◌+◌, ◌%◌, Bool, ◌==◌, ◌&&◌, ◌||◌, not, nat_le, nat_lt, if◌then◌else◌}
 use Rattle.std.specs.Prelude.{List, [], ◌∷◌, length, take, drop, codes, slice_get}
-use Rattle.std.specs.Prelude.{Option, Some, None, option_and_then, option_map, is_some}
+use Rattle.std.specs.Prelude.{Option, Some, None, option_and_then, option_map}
 use Rattle.std.specs.List.{list_all, before_first, after_first, position_or_len}
 use Rattle.std.specs.Option.{option_or}
 use Rattle.std.specs.Str.{bytes_eq}
@@ -9,8 +9,6 @@ use Rattle.kn_base.specs.Decimal.{decimal_of}
 use Rattle.kn_base.specs.declared.limits.TheConstants.{ASSERTION_BYTES, LINE_BYTES}
 use Rattle.kn_wire.specs.declared.fault.WireFault.{WireFault}
 use Rattle.kn_wire.specs.declared.fault.WireFault.TheVariants.{Syntax, Command, Long, Block}
-use Rattle.kn_wire.specs.declared.word.Word.{Word}
-use Rattle.kn_wire.specs.declared.word.Word.TheVariants as W
 
 -- what a line, or a line and its block, asks; or a fault
 pub data Request : Type 0 where
@@ -72,33 +70,6 @@ content_of (Log n) = Plain
 content_of Bye = Plain
 content_of (Faulty fault) = FaultOf fault
 
--- the command word that a text is
-abbrev pub word_of : List ℕ → Option Word
-word_of text =
-    if bytes_eq text (codes "OPEN") then Some W.Open
-    else if bytes_eq text (codes "CLOSE") then Some W.Close
-    else if bytes_eq text (codes "PIN") then Some W.Pin
-    else if bytes_eq text (codes "ASSERT") then Some W.Assert
-    else if bytes_eq text (codes "RETRACT") then Some W.Retract
-    else if bytes_eq text (codes "SET") then Some W.Set
-    else if bytes_eq text (codes "SETX") then Some W.SetHex
-    else if bytes_eq text (codes "UNSET") then Some W.Unset
-    else if bytes_eq text (codes "AUTH") then Some W.Auth
-    else if bytes_eq text (codes "UNAUTH") then Some W.Unauth
-    else if bytes_eq text (codes "CLEAR") then Some W.Clear
-    else if bytes_eq text (codes "QUERY") then Some W.Query
-    else if bytes_eq text (codes "WATCH") then Some W.Watch
-    else if bytes_eq text (codes "NEWS") then Some W.News
-    else if bytes_eq text (codes "UNWATCH") then Some W.Unwatch
-    else if bytes_eq text (codes "CRITICAL") then Some W.Critical
-    else if bytes_eq text (codes "ADMIN") then Some W.Admin
-    else if bytes_eq text (codes "ADD") then Some W.Add
-    else if bytes_eq text (codes "DROP") then Some W.Remove
-    else if bytes_eq text (codes "BATCH") then Some W.Batch
-    else if bytes_eq text (codes "LOG") then Some W.Log
-    else if bytes_eq text (codes "BYE") then Some W.Bye
-    else None
-
 -- what a line names: a whole request, or one that a block of so many bytes completes
 pub data Line : Type 0 where
   Whole : Request → Line
@@ -116,10 +87,9 @@ behind_space [] = None
 behind_space (b ∷ bs) = if is_space b then Some bs else behind_space bs
 
 -- a number and a space, and what follows
-abbrev pub with_number : List ℕ → (ℕ → List ℕ → Option Line) → Option Line
-with_number text f =
-    option_and_then (λ rest. option_and_then (λ n. f n rest) (decimal_of (before_first is_space text)))
-    (behind_space text)
+abbrev pub number_and_rest : List ℕ → Option (ℕ × List ℕ)
+number_and_rest text =
+    option_and_then (λ rest. option_map (λ n. (n, rest)) (decimal_of (before_first is_space text))) (behind_space text)
 
 -- a letter and a number
 abbrev pub number_after : ℕ → List ℕ → Option ℕ
@@ -130,79 +100,106 @@ number_after letter (b ∷ bs) = if b == letter then decimal_of bs else None
 abbrev pub is_word : List ℕ → Bool
 is_word text = nat_lt 0 (length text) && list_all (λ b. not (is_space b)) text
 
+-- a word, and what follows its space, nothing without one
+abbrev pub name_and_rest : List ℕ → Option (List ℕ × List ℕ)
+name_and_rest text =
+    if is_word (before_first is_space text) then Some (before_first is_space text, after_first is_space text)
+    else None
+
 abbrev pub is_hex_digit : ℕ → Bool
-is_hex_digit b =
-    if nat_le 48 b && nat_le b 57 then true
-    else if nat_le 65 b && nat_le b 70 then true
-    else nat_le 97 b && nat_le b 102
+is_hex_digit b = (nat_le 48 b && nat_le b 57) || (nat_le 65 b && nat_le b 70) || (nat_le 97 b && nat_le b 102)
 
 -- an even number of hexadecimal digits
 abbrev pub is_hex : List ℕ → Bool
 is_hex text = list_all is_hex_digit text && (length text % 2 == 0)
 
-abbrev pub or_empty : Option (List ℕ) → List ℕ
-or_empty None = []
-or_empty (Some text) = text
-
 abbrev pub when : Bool → Request → Option Line
-when b r = if b then Some (Whole r) else None
+when b request = if b then Some (Whole request) else None
 
--- a session and the number of a version
-abbrev pub pin_at_line : List ℕ → Option Line
-pin_at_line text = with_number text (λ s more. option_map (λ v. Whole (PinAt s v)) (decimal_of more))
+-- Forms of what stands behind a command word and its space. A form gives the line of a text that has it.
+
+-- a number alone
+abbrev pub numbered : (ℕ → Request) → List ℕ → Option Line
+numbered request text = option_map (λ n. Whole (request n)) (decimal_of text)
+
+-- a letter and a number
+abbrev pub lettered : ℕ → (ℕ → Request) → List ℕ → Option Line
+lettered letter request text = option_map (λ k. Whole (request k)) (number_after letter text)
+
+-- how many bytes a block has
+abbrev pub sized : (List ℕ → Request) → List ℕ → Option Line
+sized request text = option_map (λ n. WithBlock n request) (decimal_of text)
+
+-- a name and a value
+abbrev pub named : (List ℕ → List ℕ → Request) → List ℕ → Option Line
+named request text = option_map (λ parts. Whole (request parts.0 parts.1)) (name_and_rest text)
+
+-- a name and hexadecimal digits
+abbrev pub named_hex : (List ℕ → List ℕ → Request) → List ℕ → Option Line
+named_hex request text = option_and_then (λ parts. when (is_hex parts.1) (request parts.0 parts.1)) (name_and_rest text)
+
+-- a number and a space, and a text of the form that the number gives
+abbrev pub with_number : (ℕ → List ℕ → Option Line) → List ℕ → Option Line
+with_number form text = option_and_then (λ parts. form parts.0 parts.1) (number_and_rest text)
+
+-- a number and a space, and any text
+abbrev pub numbered_text : (ℕ → List ℕ → Request) → List ℕ → Option Line
+numbered_text request text = with_number (λ n more. Some (Whole (request n more))) text
 
 -- a session alone, or with the number of a version
 abbrev pub pin_line : List ℕ → Option Line
-pin_line text = option_or (option_map (λ s. Whole (Pin s)) (decimal_of text)) (pin_at_line text)
+pin_line text = option_or (numbered Pin text) (with_number (λ s. numbered (PinAt s)) text)
 
--- the line that a command word and what follows it spell; nothing follows a word alone
-abbrev pub line_of_word : Word → Option (List ℕ) → Option Line
-line_of_word W.Open rest = when (not (is_some rest)) Open
-line_of_word W.Bye rest = when (not (is_some rest)) Bye
-line_of_word W.Close rest = option_and_then (λ text. option_map (λ s. Whole (Close s)) (decimal_of text)) rest
-line_of_word W.Pin rest = option_and_then pin_line rest
-line_of_word W.Clear rest = option_and_then (λ text. option_map (λ s. Whole (Clear s)) (decimal_of text)) rest
-line_of_word W.Assert rest =
-    option_and_then (λ text. with_number text (λ s more. option_map (λ n. WithBlock n (Assert s)) (decimal_of more)))
-    rest
-line_of_word W.Retract rest =
-    option_and_then (λ text. with_number text (λ s more.
-    option_map (λ k. Whole (Retract s k)) (number_after 112 more))) rest
-line_of_word W.Set rest =
-    option_and_then (λ text. with_number text (λ s more. when (is_word (before_first is_space more))
-    (Set s (before_first is_space more) (after_first is_space more)))) rest
-line_of_word W.SetHex rest =
-    option_and_then (λ text. with_number text (λ s more.
-    when (is_word (before_first is_space more) && is_hex (after_first is_space more))
-    (SetHex s (before_first is_space more) (after_first is_space more)))) rest
-line_of_word W.Unset rest =
-    option_and_then (λ text. with_number text (λ s more. when (is_word more) (Unset s more))) rest
-line_of_word W.Auth rest = option_and_then (λ text. with_number text (λ s more. Some (Whole (Auth s more)))) rest
-line_of_word W.Unauth rest = option_and_then (λ text. with_number text (λ s more. Some (Whole (Unauth s more)))) rest
-line_of_word W.Query rest = option_and_then (λ text. with_number text (λ s more. Some (Whole (Query s more)))) rest
-line_of_word W.Watch rest = option_and_then (λ text. with_number text (λ s more. Some (Whole (Watch s more)))) rest
-line_of_word W.News rest = option_and_then (λ text. option_map (λ s. Whole (News s)) (decimal_of text)) rest
-line_of_word W.Unwatch rest = option_and_then (λ text. option_map (λ s. Whole (Unwatch s)) (decimal_of text)) rest
-line_of_word W.Critical rest =
-    option_and_then (λ text. with_number text (λ s more. Some (Whole (Critical s more)))) rest
-line_of_word W.Admin rest = option_and_then (λ text. when (nat_lt 0 (length text) && is_hex text) (Admin text)) rest
-line_of_word W.Add rest = option_and_then (λ text. option_map (λ n. WithBlock n Add) (decimal_of text)) rest
-line_of_word W.Remove rest = option_and_then (λ text. option_map (λ k. Whole (Drop k)) (number_after 97 text)) rest
-line_of_word W.Batch rest = option_and_then (λ text. option_map (λ n. WithBlock n Batch) (decimal_of text)) rest
-line_of_word W.Log rest = option_and_then (λ text. option_map (λ n. Whole (Log n)) (decimal_of text)) rest
+-- digits, at least two
+abbrev pub admin_line : List ℕ → Option Line
+admin_line text = when (nat_lt 0 (length text) && is_hex text) (Admin text)
+
+-- The commands.
 
 -- a line that is not of the form of its command
 abbrev pub or_malformed : Option Line → Line
 or_malformed None = Whole (Faulty Syntax)
 or_malformed (Some line) = line
 
-abbrev pub line_of_command : Option Word → Option (List ℕ) → Line
-line_of_command None rest = Whole (Faulty Command)
-line_of_command (Some word) rest = or_malformed (line_of_word word rest)
+-- nothing follows the command word
+abbrev pub alone : Request → Option (List ℕ) → Line
+alone request None = Whole request
+alone request (Some text) = Whole (Faulty Syntax)
+
+-- a space and a text of this form follow the command word
+abbrev pub behind : (List ℕ → Option Line) → Option (List ℕ) → Line
+behind form rest = or_malformed (option_and_then form rest)
+
+-- What a line of this command word asks, with the text behind its space, if there is one. 97 is the letter a, 112 is p.
+abbrev pub line_of_command : List ℕ → Option (List ℕ) → Line
+line_of_command word rest =
+    if bytes_eq word (codes "OPEN") then alone Open rest
+    else if bytes_eq word (codes "CLOSE") then behind (numbered Close) rest
+    else if bytes_eq word (codes "PIN") then behind pin_line rest
+    else if bytes_eq word (codes "ASSERT") then behind (with_number (λ s. sized (Assert s))) rest
+    else if bytes_eq word (codes "RETRACT") then behind (with_number (λ s. lettered 112 (Retract s))) rest
+    else if bytes_eq word (codes "SET") then behind (with_number (λ s. named (Set s))) rest
+    else if bytes_eq word (codes "SETX") then behind (with_number (λ s. named_hex (SetHex s))) rest
+    else if bytes_eq word (codes "UNSET") then behind (with_number (λ s name. when (is_word name) (Unset s name))) rest
+    else if bytes_eq word (codes "AUTH") then behind (numbered_text Auth) rest
+    else if bytes_eq word (codes "UNAUTH") then behind (numbered_text Unauth) rest
+    else if bytes_eq word (codes "CLEAR") then behind (numbered Clear) rest
+    else if bytes_eq word (codes "QUERY") then behind (numbered_text Query) rest
+    else if bytes_eq word (codes "WATCH") then behind (numbered_text Watch) rest
+    else if bytes_eq word (codes "NEWS") then behind (numbered News) rest
+    else if bytes_eq word (codes "UNWATCH") then behind (numbered Unwatch) rest
+    else if bytes_eq word (codes "CRITICAL") then behind (numbered_text Critical) rest
+    else if bytes_eq word (codes "ADMIN") then behind admin_line rest
+    else if bytes_eq word (codes "ADD") then behind (sized Add) rest
+    else if bytes_eq word (codes "DROP") then behind (lettered 97 Drop) rest
+    else if bytes_eq word (codes "BATCH") then behind (sized Batch) rest
+    else if bytes_eq word (codes "LOG") then behind (numbered Log) rest
+    else if bytes_eq word (codes "BYE") then alone Bye rest
+    else Whole (Faulty Command)
 
 -- the words are separated by one space
 abbrev pub line_of : List ℕ → Line
-line_of text = line_of_command (word_of (before_first is_space text)) (behind_space text)
+line_of text = line_of_command (before_first is_space text) (behind_space text)
 
 abbrev pub is_return : ℕ → Bool
 is_return b = b == 13

@@ -7,7 +7,7 @@ use Rattle.kn_wire.specs.Requests as D
 
 -- what a request asks
 abbrev pub request_of : Request → D.Request
-request_of Q.Start = D.Open
+request_of Q.Open = D.Open
 request_of (Q.Close s) = D.Close s
 request_of (Q.Pin s) = D.Pin s
 request_of (Q.Assert s block) = D.Assert s block.now
@@ -25,7 +25,7 @@ request_of (Q.Unwatch s) = D.Unwatch s
 request_of (Q.Critical s values) = D.Critical s values.now
 request_of (Q.Admin digits) = D.Admin digits.now
 request_of (Q.Add block) = D.Add block.now
-request_of (Q.Remove k) = D.Drop k
+request_of (Q.Drop k) = D.Drop k
 request_of (Q.Batch block) = D.Batch block.now
 request_of (Q.PinAt s version) = D.PinAt s version
 request_of (Q.Log n) = D.Log n

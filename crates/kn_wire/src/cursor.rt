@@ -3,10 +3,10 @@ ghost use Rattle.std.specs.Prelude.{◌≡◌, ◌+◌, ◌<◌, ◌≤◌, ◌^
 ghost use Rattle.kn_wire.specs.Cursors.{Advances, IsSound, Waits, held_at};
 ghost use Rattle.kn_wire.specs.declared.cursor.Stage.TheVariants as S;
 
+use crate::byte_range::ByteRange;
 use crate::fault::WireFault;
 use crate::first::{First, read_first};
 use crate::head::Head;
-use crate::part::Part;
 
 /// Where a feed stands in its stream.
 #[derive(Clone, Copy, Drop)]
@@ -25,9 +25,9 @@ pub(crate) enum Advanced {
     /// There is no whole request.
     Nothing,
     /// This line was spent, which names no block.
-    Line(Part),
+    Line(ByteRange),
     /// This block was spent, and the line before it.
-    WithBlock { head: Head, block: Part },
+    WithBlock { head: Head, block: ByteRange },
     Refused(WireFault),
 }
 

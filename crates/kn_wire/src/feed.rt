@@ -4,11 +4,11 @@ ghost use Rattle.kn_wire.specs.declared.feed.TheConstants.{BUFFER_BYTES};
 ghost use Rattle.kn_wire.specs.Cursors.{IsSound};
 
 use crate::buffer::{copy_behind, move_front, read_behind};
+use crate::byte_range::ByteRange;
 use crate::cursor::{Advanced, Cursor, Stage};
 use crate::fault::WireFault;
 use crate::head::Head;
 use crate::line::read_line;
-use crate::part::Part;
 use crate::request::Request;
 use crate::split::place_of;
 use kn_base::NoMemory;
@@ -43,7 +43,7 @@ impl Feed {
     ghost use Rattle.std.specs.Borrow.{sem, follows_so};
     ghost use Rattle.kn_wire.specs.Cursors.{Advances};
     ghost use Rattle.kn_wire.specs.Lines.{blocked_of, with_block};
-    ghost use Rattle.kn_wire.specs.Parts.{part_of};
+    ghost use Rattle.kn_wire.specs.ByteRanges.{bytes_in};
     ghost use Rattle.kn_wire.specs.Requests as D;
     ghost use Rattle.kn_wire.specs.Requests.{line_of};
     ghost use Rattle.kn_wire.specs.Hex.{IsWellFormed};
@@ -144,22 +144,22 @@ impl Feed {
     }
 
     /// What a line that was spent asks.
-    fn read_spent(&self, line: Part) -> Result<Request<'_>, WireFault>
+    fn read_spent(&self, line: ByteRange) -> Result<Request<'_>, WireFault>
         requires within { line.start + line.len ≤ length (take self.now.end self.now.buf.items) }
-        requires whole { blocked_of (line_of (part_of line (take self.now.end self.now.buf.items))) ≡ None }
+        requires whole { blocked_of (line_of (bytes_in line (take self.now.end self.now.buf.items))) ≡ None }
         ensures form { IfOk result (λ request. IsWellFormed (request_of request)) }
         ensures request { D.Whole (request_or_fault result)
-            ≡ line_of (part_of line (take self.now.end self.now.buf.items)) }
+            ≡ line_of (bytes_in line (take self.now.end self.now.buf.items)) }
     {
         read_line(line.of(self.bytes()))
     }
 
     /// The request of a head and a block that were spent.
-    fn complete(&self, head: Head, block: Part) -> Request<'_>
+    fn complete(&self, head: Head, block: ByteRange) -> Request<'_>
         requires within { block.start + block.len ≤ length (take self.now.end self.now.buf.items) }
         requires short { block.len ≤ ASSERTION_BYTES }
         ensures form { IsWellFormed (request_of result) }
-        ensures request { request_of result ≡ with_block head (part_of block (take self.now.end self.now.buf.items)) }
+        ensures request { request_of result ≡ with_block head (bytes_in block (take self.now.end self.now.buf.items)) }
     {
         head.with_block(block.of(self.bytes()))
     }

@@ -4,8 +4,8 @@ ghost use Rattle.kn_wire.specs.Lines.{with_block};
 ghost use Rattle.kn_wire.specs.Requests.{line_length};
 ghost use Rattle.kn_wire.specs.Firsts.{IsFirst, NamesBlock};
 
+use crate::byte_range::ByteRange;
 use crate::head::{Head, read_head};
-use crate::part::Part;
 use crate::split::{place_of, without_return};
 use kn_base::limits::{ASSERTION_BYTES, LINE_BYTES};
 
@@ -19,13 +19,13 @@ pub(crate) enum First {
     },
     /// A line that names no block, without its carriage return. So many bytes are spent.
     Line {
-        line: Part,
+        line: ByteRange,
         bytes: usize,
     },
     /// A request with its block. So many bytes are spent.
     WithBlock {
         head: Head,
-        block: Part,
+        block: ByteRange,
         bytes: usize,
     },
     /// A long line of so many bytes, with a newline behind them or not.
@@ -57,7 +57,7 @@ pub(crate) fn read_first(text: &[u8], searched: usize) -> First
     match read_head(line) {
         Some((head, n)) => read_block(text, end, head, n),
         None => First::Line {
-            line: Part {
+            line: ByteRange {
                 start: 0,
                 len: line.len(),
             },
@@ -86,7 +86,7 @@ fn read_block(text: &[u8], end: usize, head: Head, n: usize) -> First
     }
     First::WithBlock {
         head,
-        block: Part { start, len: n },
+        block: ByteRange { start, len: n },
         bytes: start + n + 1,
     }
 }

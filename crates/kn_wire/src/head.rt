@@ -1,7 +1,8 @@
 //! The line of a request that a block completes.
-ghost use Rattle.std.specs.Prelude.{◌≡◌, option_map, Some};
-ghost use Rattle.kn_wire.specs.Lines.{blocked_of, line_of_head};
-ghost use Rattle.kn_wire.specs.Requests.{line_of, line_of_word};
+ghost use Rattle.std.specs.Prelude.{◌≡◌, option_map};
+ghost use Rattle.kn_wire.specs.Lines.{blocked_of, line_of_head, with_block};
+ghost use Rattle.kn_wire.specs.Requests as D;
+ghost use Rattle.kn_wire.specs.Requests.{line_of, sized, with_number};
 
 use crate::request::Request;
 use crate::split::split_number;
@@ -38,35 +39,28 @@ pub(crate) fn read_head(line: &[u8]) -> Option<(Head, usize)>
     ensures { option_map line_of_head result ≡ blocked_of (line_of line.now) }
 {
     if let Some(text) = line.strip_prefix(b"ADD ") {
-        return read_add(text);
+        return read_size(Head::Add, text);
     }
     if let Some(text) = line.strip_prefix(b"ASSERT ") {
         return read_assert(text);
     }
     if let Some(text) = line.strip_prefix(b"BATCH ") {
-        return read_batch(text);
+        return read_size(Head::Batch, text);
     }
     None
 }
 
-fn read_add(text: &[u8]) -> Option<(Head, usize)>
-    ensures { option_map line_of_head result ≡ line_of_word Word.Add (Some text.now) }
-{
-    let n = decimal(text)?;
-    Some((Head::Add, n as usize))
-}
-
-fn read_batch(text: &[u8]) -> Option<(Head, usize)>
-    ensures { option_map line_of_head result ≡ line_of_word Word.Batch (Some text.now) }
-{
-    let n = decimal(text)?;
-    Some((Head::Batch, n as usize))
-}
-
 fn read_assert(text: &[u8]) -> Option<(Head, usize)>
-    ensures { option_map line_of_head result ≡ line_of_word Word.Assert (Some text.now) }
+    ensures { option_map line_of_head result ≡ with_number (λ s. sized (D.Assert s)) text.now }
 {
     let (s, rest) = split_number(text)?;
-    let n = decimal(rest)?;
-    Some((Head::Assert { s }, n as usize))
+    read_size(Head::Assert { s }, rest)
+}
+
+/// The head, and how many bytes its block has.
+fn read_size(head: Head, text: &[u8]) -> Option<(Head, usize)>
+    ensures { option_map line_of_head result ≡ sized (with_block head) text.now }
+{
+    let n = decimal(text)?;
+    Some((head, n as usize))
 }

@@ -5,6 +5,7 @@
 #![tactic(auto)]
 
 mod buffer;
+mod byte_range;
 mod cursor;
 mod fault;
 mod feed;
@@ -14,7 +15,6 @@ mod hex;
 mod items;
 pub mod laws;
 mod line;
-mod part;
 mod request;
 mod split;
 mod word;

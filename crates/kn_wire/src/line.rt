@@ -1,10 +1,12 @@
 //! What a line asks that names no block.
-ghost use Rattle.std.specs.Prelude.{◌≡◌, not, option_map, option_and_then, Some, None};
+ghost use Rattle.std.specs.Prelude.{◌≡◌, not, option_map, Some, None};
 ghost use Rattle.std.specs.List.{list_all};
-ghost use Rattle.kn_wire.specs.Lines.{blocked_of, name_and_rest, request_of_word, whole_of};
+ghost use Rattle.kn_wire.specs.Lines.{blocked_of, line_of_request, word_text};
 ghost use Rattle.kn_wire.specs.Requests as D;
-ghost use Rattle.kn_wire.specs.Requests.{line_of, pin_at_line, is_space, is_word, is_hex};
-ghost use Rattle.kn_wire.specs.Wired.{request_of, request_or_fault};
+ghost use Rattle.kn_wire.specs.Requests.{is_space, is_word, line_of, line_of_command, name_and_rest, or_malformed};
+ghost use Rattle.kn_wire.specs.Requests.{admin_line, lettered, named, named_hex, numbered, numbered_text, pin_line};
+ghost use Rattle.kn_wire.specs.Requests.{when, with_number};
+ghost use Rattle.kn_wire.specs.Wired.{request_or_fault};
 
 use crate::fault::WireFault;
 use crate::hex::is_hex;
@@ -22,55 +24,27 @@ pub(crate) fn read_line(line: &[u8]) -> Result<Request<'_>, WireFault>
     let Some(word) = Word::of(word) else {
         return Err(WireFault::Command);
     };
-    match read_rest(word, rest) {
-        Some(request) => Ok(request),
-        None => Err(WireFault::Syntax),
-    }
-}
-
-/// The request that a command word and what follows its space spell; None where they spell none without a block.
-fn read_rest(word: Word, rest: Option<&[u8]>) -> Option<Request<'_>>
-    ensures { option_map request_of result ≡ request_of_word word (option_map (λ text. text.now) rest.entry) }
-{
     match rest {
-        Some(rest) => read_behind(word, rest),
-        None => read_alone(word),
+        Some(text) => read_behind(word, text).ok_or(WireFault::Syntax),
+        None => read_alone(word).ok_or(WireFault::Syntax),
     }
 }
 
-/// The request that is a command word alone.
+/// The request that is a command word alone; None where it isn't of its form.
 fn read_alone<'a>(word: Word) -> Option<Request<'a>>
-    ensures { option_map request_of result ≡ request_of_word word None }
+    ensures { or_malformed (option_map line_of_request result) ≡ line_of_command (word_text word) None }
 {
     match word {
-        Word::Open => Some(Request::Start),
+        Word::Open => Some(Request::Open),
         Word::Bye => Some(Request::Bye),
-        Word::Close
-        | Word::Pin
-        | Word::Assert
-        | Word::Retract
-        | Word::Set
-        | Word::SetHex
-        | Word::Unset
-        | Word::Auth
-        | Word::Unauth
-        | Word::Clear
-        | Word::Query
-        | Word::Watch
-        | Word::News
-        | Word::Unwatch
-        | Word::Critical
-        | Word::Admin
-        | Word::Add
-        | Word::Remove
-        | Word::Batch
-        | Word::Log => None,
+        _ => None,
     }
 }
 
-/// The request of a command word, a space and this text.
+/// The request of a command word, a space and this text, which names no block; None where it isn't of its form.
 fn read_behind(word: Word, text: &[u8]) -> Option<Request<'_>>
-    ensures { option_map request_of result ≡ request_of_word word (Some text.now) }
+    requires { blocked_of (line_of_command (word_text word) (Some text.now)) ≡ None }
+    ensures { or_malformed (option_map line_of_request result) ≡ line_of_command (word_text word) (Some text.now) }
 {
     match word {
         Word::Open | Word::Bye | Word::Assert | Word::Add | Word::Batch => None,
@@ -89,20 +63,20 @@ fn read_behind(word: Word, text: &[u8]) -> Option<Request<'_>>
         Word::Unwatch => read_unwatch(text),
         Word::Critical => read_critical(text),
         Word::Admin => read_admin(text),
-        Word::Remove => read_remove(text),
+        Word::Drop => read_drop(text),
         Word::Log => read_log(text),
     }
 }
 
 fn read_close(text: &[u8]) -> Option<Request<'_>>
-    ensures { option_map request_of result ≡ request_of_word Word.Close (Some text.now) }
+    ensures { option_map line_of_request result ≡ numbered D.Close text.now }
 {
     let s = decimal(text)?;
     Some(Request::Close { s })
 }
 
 fn read_pin(text: &[u8]) -> Option<Request<'_>>
-    ensures { option_map request_of result ≡ request_of_word Word.Pin (Some text.now) }
+    ensures { option_map line_of_request result ≡ pin_line text.now }
 {
     match decimal(text) {
         Some(s) => Some(Request::Pin { s }),
@@ -111,7 +85,7 @@ fn read_pin(text: &[u8]) -> Option<Request<'_>>
 }
 
 fn read_pin_at(text: &[u8]) -> Option<Request<'_>>
-    ensures { option_map request_of result ≡ option_and_then whole_of (pin_at_line text.now) }
+    ensures { option_map line_of_request result ≡ with_number (λ s. numbered (D.PinAt s)) text.now }
 {
     let (s, rest) = split_number(text)?;
     let version = decimal(rest)?;
@@ -119,28 +93,28 @@ fn read_pin_at(text: &[u8]) -> Option<Request<'_>>
 }
 
 fn read_log(text: &[u8]) -> Option<Request<'_>>
-    ensures { option_map request_of result ≡ request_of_word Word.Log (Some text.now) }
+    ensures { option_map line_of_request result ≡ numbered D.Log text.now }
 {
     let n = decimal(text)?;
     Some(Request::Log { n })
 }
 
 fn read_clear(text: &[u8]) -> Option<Request<'_>>
-    ensures { option_map request_of result ≡ request_of_word Word.Clear (Some text.now) }
+    ensures { option_map line_of_request result ≡ numbered D.Clear text.now }
 {
     let s = decimal(text)?;
     Some(Request::Clear { s })
 }
 
-fn read_remove(text: &[u8]) -> Option<Request<'_>>
-    ensures { option_map request_of result ≡ request_of_word Word.Remove (Some text.now) }
+fn read_drop(text: &[u8]) -> Option<Request<'_>>
+    ensures { option_map line_of_request result ≡ lettered 97 D.Drop text.now }
 {
     let k = number_behind(b'a', text)?;
-    Some(Request::Remove { k })
+    Some(Request::Drop { k })
 }
 
 fn read_admin(text: &[u8]) -> Option<Request<'_>>
-    ensures { option_map request_of result ≡ request_of_word Word.Admin (Some text.now) }
+    ensures { option_map line_of_request result ≡ admin_line text.now }
 {
     if text.is_empty() || !is_hex(text) {
         return None;
@@ -149,7 +123,7 @@ fn read_admin(text: &[u8]) -> Option<Request<'_>>
 }
 
 fn read_retract(text: &[u8]) -> Option<Request<'_>>
-    ensures { option_map request_of result ≡ request_of_word Word.Retract (Some text.now) }
+    ensures { option_map line_of_request result ≡ with_number (λ s. lettered 112 (D.Retract s)) text.now }
 {
     let (s, rest) = split_number(text)?;
     let k = number_behind(b'p', rest)?;
@@ -157,7 +131,7 @@ fn read_retract(text: &[u8]) -> Option<Request<'_>>
 }
 
 fn read_set(text: &[u8]) -> Option<Request<'_>>
-    ensures { option_map request_of result ≡ request_of_word Word.Set (Some text.now) }
+    ensures { option_map line_of_request result ≡ with_number (λ s. named (D.Set s)) text.now }
 {
     let (s, rest) = split_number(text)?;
     let (name, value) = split_name(rest)?;
@@ -165,7 +139,7 @@ fn read_set(text: &[u8]) -> Option<Request<'_>>
 }
 
 fn read_set_hex(text: &[u8]) -> Option<Request<'_>>
-    ensures { option_map request_of result ≡ request_of_word Word.SetHex (Some text.now) }
+    ensures { option_map line_of_request result ≡ with_number (λ s. named_hex (D.SetHex s)) text.now }
 {
     let (s, rest) = split_number(text)?;
     let (name, digits) = split_name(rest)?;
@@ -176,59 +150,60 @@ fn read_set_hex(text: &[u8]) -> Option<Request<'_>>
 }
 
 fn read_unset(text: &[u8]) -> Option<Request<'_>>
-    ensures { option_map request_of result ≡ request_of_word Word.Unset (Some text.now) }
+    ensures { option_map line_of_request result
+        ≡ with_number (λ s name. when (is_word name) (D.Unset s name)) text.now }
 {
     let (s, name) = split_number(text)?;
-    if !is_word(name) {
+    if name.is_empty() || !has_no_space(name) {
         return None;
     }
     Some(Request::Unset { s, name })
 }
 
 fn read_auth(text: &[u8]) -> Option<Request<'_>>
-    ensures { option_map request_of result ≡ request_of_word Word.Auth (Some text.now) }
+    ensures { option_map line_of_request result ≡ numbered_text D.Auth text.now }
 {
     let (s, principal) = split_number(text)?;
     Some(Request::Auth { s, principal })
 }
 
 fn read_unauth(text: &[u8]) -> Option<Request<'_>>
-    ensures { option_map request_of result ≡ request_of_word Word.Unauth (Some text.now) }
+    ensures { option_map line_of_request result ≡ numbered_text D.Unauth text.now }
 {
     let (s, principal) = split_number(text)?;
     Some(Request::Unauth { s, principal })
 }
 
 fn read_query(text: &[u8]) -> Option<Request<'_>>
-    ensures { option_map request_of result ≡ request_of_word Word.Query (Some text.now) }
+    ensures { option_map line_of_request result ≡ numbered_text D.Query text.now }
 {
     let (s, values) = split_number(text)?;
     Some(Request::Query { s, values })
 }
 
 fn read_watch(text: &[u8]) -> Option<Request<'_>>
-    ensures { option_map request_of result ≡ request_of_word Word.Watch (Some text.now) }
+    ensures { option_map line_of_request result ≡ numbered_text D.Watch text.now }
 {
     let (s, values) = split_number(text)?;
     Some(Request::Watch { s, values })
 }
 
 fn read_news(text: &[u8]) -> Option<Request<'_>>
-    ensures { option_map request_of result ≡ request_of_word Word.News (Some text.now) }
+    ensures { option_map line_of_request result ≡ numbered D.News text.now }
 {
     let s = decimal(text)?;
     Some(Request::News { s })
 }
 
 fn read_unwatch(text: &[u8]) -> Option<Request<'_>>
-    ensures { option_map request_of result ≡ request_of_word Word.Unwatch (Some text.now) }
+    ensures { option_map line_of_request result ≡ numbered D.Unwatch text.now }
 {
     let s = decimal(text)?;
     Some(Request::Unwatch { s })
 }
 
 fn read_critical(text: &[u8]) -> Option<Request<'_>>
-    ensures { option_map request_of result ≡ request_of_word Word.Critical (Some text.now) }
+    ensures { option_map line_of_request result ≡ numbered_text D.Critical text.now }
 {
     let (s, values) = split_number(text)?;
     Some(Request::Critical { s, values })
@@ -246,13 +221,6 @@ fn split_name(text: &[u8]) -> Option<(&[u8], &[u8])>
         Some(rest) => Some((name, rest)),
         None => Some((name, b"")),
     }
-}
-
-/// Whether a text is a word: at least one byte, and no space.
-fn is_word(text: &[u8]) -> bool
-    ensures { result ≡ is_word text.now }
-{
-    0 < text.len() && has_no_space(text)
 }
 
 fn has_no_space(text: &[u8]) -> bool

@@ -5,8 +5,8 @@
 /// `s` is the number of a session, `k` the number of an assertion behind its letter.
 #[derive(Clone, Copy)]
 pub enum Request<'a> {
-    /// Opens a session: `OPEN`.
-    Start,
+    /// Opens a session.
+    Open,
     /// Ends a session.
     Close {
         s: u32,
@@ -92,8 +92,8 @@ pub enum Request<'a> {
     Add {
         block: &'a [u8],
     },
-    /// Removes a shared credential: `DROP`.
-    Remove {
+    /// Removes a shared credential.
+    Drop {
         k: u32,
     },
     /// Several changes, all or none of them. The block is a list of items.

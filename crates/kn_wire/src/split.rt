@@ -1,8 +1,7 @@
 //! Cutting texts at a byte.
 ghost use Rattle.std.specs.Prelude.{◌≡◌, ◌≤◌, ◌==◌, length, option_map};
 ghost use Rattle.std.specs.List.{before_first, position_or_len};
-ghost use Rattle.kn_wire.specs.Lines.{number_and_rest};
-ghost use Rattle.kn_wire.specs.Requests.{behind_space, is_space, number_after, without_return};
+ghost use Rattle.kn_wire.specs.Requests.{behind_space, is_space, number_after, number_and_rest, without_return};
 
 use kn_base::decimal;
 

@@ -21,19 +21,23 @@ pub(crate) enum Word {
     Critical,
     Admin,
     Add,
-    Remove,
+    Drop,
     Batch,
     Log,
     Bye,
 }
 
 impl Word {
-    ghost use Rattle.std.specs.Prelude.{◌≡◌};
-    ghost use Rattle.kn_wire.specs.Requests.{word_of};
+    ghost use Rattle.std.specs.Prelude.{ℕ, List, ◌≡◌, Option, MatchOption};
+    ghost use Rattle.kn_wire.specs.Lines.{word_text};
+    ghost use Rattle.kn_wire.specs.Requests.{Whole, Faulty, line_of_command};
+    ghost use Rattle.kn_wire.specs.declared.fault.WireFault.TheVariants.{Command};
 
     /// The command that a text spells; None where it spells none.
     pub(crate) fn of(text: &[u8]) -> Option<Word>
-        ensures { result ≡ word_of text.now }
+        ensures { MatchOption result
+            ((rest : Option (List ℕ)) → line_of_command text.now rest ≡ Whole (Faulty Command))
+            (λ word. text.now ≡ word_text word) }
     {
         if text == b"OPEN".as_slice() {
             Some(Word::Open)
@@ -72,7 +76,7 @@ impl Word {
         } else if text == b"ADD".as_slice() {
             Some(Word::Add)
         } else if text == b"DROP".as_slice() {
-            Some(Word::Remove)
+            Some(Word::Drop)
         } else if text == b"BATCH".as_slice() {
             Some(Word::Batch)
         } else if text == b"LOG".as_slice() {

@@ -10,7 +10,7 @@ returns-in-Some c =
     rw c.in-Some.is at
     (strip_prefix_is Decides-eqb c.args.line.now (codes "ADD ") c.strip_prefix.result
     c.strip_prefix.ensures.cases) in
-    c.read_add.ensures ∙ names_add c.args.line.now c.in-Some.text.now is
+    c.read_size.ensures ∙ names_add c.args.line.now c.in-Some.text.now is
 
 pub returns-in-Some-strip_prefix : goal.returns-in-Some-strip_prefix
 returns-in-Some-strip_prefix c =
@@ -26,7 +26,7 @@ returns-in-Some-strip_prefix-2 c =
     rw c.in-Some-strip_prefix-2.is at
     (strip_prefix_is Decides-eqb c.args.line.now (codes "BATCH ") c.strip_prefix-3.result
     c.strip_prefix-3.ensures.cases) in
-    c.read_batch.ensures ∙ names_batch c.args.line.now c.in-Some-strip_prefix-2.text.now is
+    c.read_size-in-Some-strip_prefix-2.ensures ∙ names_batch c.args.line.now c.in-Some-strip_prefix-2.text.now is
 
 pub returns : goal.returns
 returns c =
