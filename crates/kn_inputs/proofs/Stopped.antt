@@ -21,9 +21,8 @@ use Rattle.kn_inputs.specs.Held.{HasContent, IsPolicy, AreKeys, IsFileRead}
 use Rattle.kn_inputs.specs.Stopping.{IsUnread}
 use Rattle.kn_inputs.specs.Inputs.{StopsAtPolicy, StopsAtKeys, AreKeysStopped}
 use Rattle.kn_inputs.proofs.Files.{content_there, too_large_there, keeps_content, asked_both, failed_behind}
-use Rattle.kn_inputs.proofs.Files.{asked_nothing}
 
--- and so does one that isn't loaded
+-- a policy file that isn't loaded stops the command
 pub unloaded_policy : (f f' : FilesSeen) (name bytes : List ℕ) (fault : LoadFault) (stop : InputFault)
     → stop ≡ input_fault_of fault
     → HasAsked (name ∷ []) f f' → HasContent f name bytes →

@@ -17,6 +17,7 @@ use Rattle.kn_daemon.specs.Daemon.{DaemonConfig, State, Permits, Answers, own_re
 use Rattle.kn_daemon.specs.Daemon.{may_lack_memory, refusal_of_fault}
 use Rattle.kn_daemon.specs.Linearized.{update_by, is_placed, StandsFor}
 use Rattle.kn_daemon.proofs.Refusals.{own-unplaced}
+use Rattle.kn_daemon.proofs.Updates.{refused-none, lacking-none}
 use Rattle.kn_registry.specs.Passes.{PassSeen, Moves, Looks, Stays}
 use Rattle.kn_registry.proofs.PassMoves.{moves-nothing}
 use Rattle.kn_serve.specs.Handling.{Moment, in_state, Handles, Tells, refused_reply}
@@ -92,17 +93,19 @@ module _ (g : DaemonConfig) (shape : Shape) (whole : Bool) (m m' : Moment) where
   refused_handled refusal same looks own placed prints =
       let first : option_or (own_refusal g m.state shape) (placed_refusal m'.pass.seen shape) ≡ Some refusal =
       ap (λ (o : Option Refusal). option_or o (placed_refusal m'.pass.seen shape)) own ∙ placed in
-      looked_handled (No refusal) looks own refl (first, same) prints
+      looked_handled (No refusal) looks own (refused-none m.pass.number shape refusal) (first, same) prints
 
   -- memory ran out once the turn was had
   pub unserved_handled : m'.state ≡ m.state → Looks m.pass m'.pass → own_refusal g m.state shape ≡ None →
       may_lack_memory shape ≡ true → Prints whole (reply_text NoMemory) m.link m'.link → Handles g shape whole m m'
-  unserved_handled same looks own may prints = looked_handled NoMemory looks own refl (may, same) prints
+  unserved_handled same looks own may prints =
+      looked_handled NoMemory looks own (lacking-none m.pass.number shape) (may, same) prints
 
   -- memory ran out, and the turn was had once at most
   pub lacking_handled : m'.state ≡ m.state → Stays m.pass m'.pass → own_refusal g m.state shape ≡ None →
       may_lack_memory shape ≡ true → Prints whole (reply_text NoMemory) m.link m'.link → Handles g shape whole m m'
-  lacking_handled same stays own may prints = stayed_handled NoMemory stays own refl refl (may, same) prints
+  lacking_handled same stays own may prints =
+      stayed_handled NoMemory stays own (lacking-none m.pass.number shape) refl (may, same) prints
 
 -- a request of this shape
 pub handles_as : (g : DaemonConfig) (shape : Shape) (whole : Bool) (m m' : Moment) (asked is : Asked) →
@@ -163,7 +166,7 @@ module _ (g : DaemonConfig) (shape : Shape) (whole : Bool) (old : State) (l l' :
   told_refused refusal refused prints = record {
     reply = No refusal;
     permitted = λ caller past. (ap (λ (o : Option Refusal). option_or o (placed_refusal past shape)) refused, refl);
-    no_update = λ caller. refl;
+    no_update = λ caller. refused-none caller shape refusal;
     unplaced = own-unplaced g old shape refusal refused;
     prints = prints;
   }
@@ -174,7 +177,7 @@ module _ (g : DaemonConfig) (shape : Shape) (whole : Bool) (old : State) (l l' :
   told_memory may prints = record {
     reply = NoMemory;
     permitted = λ caller past. (may, refl);
-    no_update = λ caller. refl;
+    no_update = λ caller. lacking-none caller shape;
     unplaced = refl;
     prints = prints;
   }

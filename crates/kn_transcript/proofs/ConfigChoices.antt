@@ -11,7 +11,16 @@ use Rattle.kn_daemon.specs.Daemon.{DaemonConfig, State, Permits, Does, Answers, 
 use Rattle.kn_daemon.specs.Daemon.{first_refusal}
 use Rattle.kn_daemon.specs.Daemon.{state_after}
 use Rattle.kn_transcript.specs.declared.fault.TheConstants.{AUTH_FAULTS}
-use Rattle.kn_transcript.specs.Followed.{IsPermitted, history_behind}
+use Rattle.kn_daemon.proofs.Updates.{refused-none, lacking-none}
+use Rattle.kn_transcript.specs.Followed.{IsPermitted, with_update, history_behind}
+
+-- a refusal adds no update, and neither does a reply when out of memory
+pub refused-behind : (past : List Update) (shape : Shape) (refusal : Refusal)
+    → history_behind past shape (No refusal) ≡ past
+refused-behind past shape refusal = ap (with_update past) (refused-none 0 shape refusal)
+
+pub lacking-behind : (past : List Update) (shape : Shape) → history_behind past shape NoMemory ≡ past
+lacking-behind past shape = ap (with_update past) (lacking-none 0 shape)
 
 -- no secret is right, and this is the verdict on each text
 abbrev pub config_at : ℕ → DaemonConfig
@@ -102,7 +111,10 @@ module _ (past : List Update) (old : State) (shape : Shape) where
   own_permitted refusal verdict few own = record {
     grounds = config_at verdict;
     faults = λ text assertion. few;
-    permitted = (ap (λ (o : Option Refusal). option_or o (placed_refusal past shape)) own, refl);
+    permitted = (
+      ap (λ (o : Option Refusal). option_or o (placed_refusal (history_behind past shape (No refusal)) shape)) own,
+      refl,
+    );
   }
 
   -- the history refuses it
@@ -115,7 +127,7 @@ module _ (past : List Update) (old : State) (shape : Shape) where
         | inr does ↦ absurd (never reply other does)
         | inl r ↦
             let here : history_behind past shape reply ≡ past =
-            ap (λ (x : Reply). history_behind past shape x) r.exact in
+            ap (λ (x : Reply). history_behind past shape x) r.exact ∙ refused-behind past shape r.refusal in
             let first : Some refusal ≡ Some r.refusal =
             sym (ap (λ (o : Option Refusal). option_or o (placed_refusal past shape)) own ∙ placed)
             ∙ ap (λ (x : List Update). first_refusal g x old shape) (sym here) ∙ r.first in
@@ -128,7 +140,11 @@ module _ (past : List Update) (old : State) (shape : Shape) where
   placed_permitted refusal own placed = record {
     grounds = config_at 0;
     faults = λ text assertion. omega arith;
-    permitted = (ap (λ (o : Option Refusal). option_or o (placed_refusal past shape)) own ∙ placed, refl);
+    permitted = (
+      ap (λ (o : Option Refusal). option_or o (placed_refusal (history_behind past shape (No refusal)) shape)) own
+          ∙ ap (λ (x : List Update). placed_refusal x shape) (refused-behind past shape refusal) ∙ placed,
+      refl,
+    );
   }
 
   -- nothing refuses it, and this is what it answers
@@ -140,7 +156,7 @@ module _ (past : List Update) (old : State) (shape : Shape) where
         | inr does ↦ answers reply other does
         | inl r ↦
             let here : history_behind past shape reply ≡ past =
-            ap (λ (x : Reply). history_behind past shape x) r.exact in
+            ap (λ (x : Reply). history_behind past shape x) r.exact ∙ refused-behind past shape r.refusal in
             let first : None ≡ Some r.refusal =
             sym (ap (λ (o : Option Refusal). option_or o (placed_refusal past shape)) own ∙ placed)
             ∙ ap (λ (x : List Update). first_refusal g x old shape) (sym here) ∙ r.first in

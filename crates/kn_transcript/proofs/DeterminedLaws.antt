@@ -9,7 +9,7 @@ use Rattle.kn_daemon.specs.Daemon.{DaemonConfig, State, Permits, Does, Answers, 
 use Rattle.kn_transcript.specs.Followed.{IsPermitted, history_behind}
 use Rattle.kn_transcript.specs.Accepted.{is_value}
 use Rattle.kn_transcript.specs.Progress.{begins_with_value}
-use Rattle.kn_transcript.proofs.ConfigChoices.{is_acceptance}
+use Rattle.kn_transcript.proofs.ConfigChoices.{is_acceptance, refused-behind, lacking-behind}
 use Rattle.kn_transcript.proofs.CommittedLaws.{added_only, removed_only, batched_only}
 use Rattle.kn_transcript.proofs.RequestLaws.{value_told}
 
@@ -55,8 +55,8 @@ module _ (g : DaemonConfig) (past made : List Update) (old : State) (shape : Sha
   kept_by (Log n history) new is p = absurd (cc is)
   kept_by (News index name version) new is p = absurd (cc is)
   kept_by (Critical index ids) new is p = absurd (cc is)
-  kept_by (No refusal) new is p = (p.1, refl)
-  kept_by NoMemory new is p = (p.1, refl)
+  kept_by (No refusal) new is p = (p.1, refused-behind past shape refusal)
+  kept_by NoMemory new is p = (p.1, lacking-behind past shape)
 
   done_by : (reply : Reply) (new : State) → is_acceptance reply ≡ true → Permits g 0 made old shape reply new
       → Does g 0 made old shape reply new

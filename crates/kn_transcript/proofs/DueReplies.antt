@@ -10,7 +10,7 @@ use Rattle.kn_daemon.specs.Daemon.{DaemonConfig, State, Answers, own_refusal, pl
 use Rattle.kn_transcript.specs.Followed.{IsPermitted, history_behind}
 use Rattle.kn_transcript.specs.Judging.{IsBehind, Judges}
 use Rattle.kn_transcript.proofs.ConfigChoices.{OnlyReply, DoesReply, config_at, is_acceptance, own_only, own_permitted}
-use Rattle.kn_transcript.proofs.ConfigChoices.{placed_only, placed_permitted, done_only, done_permitted}
+use Rattle.kn_transcript.proofs.ConfigChoices.{placed_only, placed_permitted, done_only, done_permitted, refused-behind}
 
 module _ (past : List Update) (old : State) (shape : Shape) (left : List ℕ) (history : List Update) (new : State) where
   -- a permitted reply stands there
@@ -55,7 +55,7 @@ module _ (past : List Update) (old : State) (shape : Shape) (left : List ℕ) {X
   refused_ok refusal own result is =
       judged_ok past old shape left past old view (No refusal) tt
       (own_permitted past old shape refusal 0 (omega arith) (own (config_at 0)))
-      refl (λ g. own_only past old shape refusal g (own g)) result is
+      (sym (refused-behind past shape refusal)) (λ g. own_only past old shape refusal g (own g)) result is
 
   -- the history does
   pub placed_ok : (refusal : Refusal) → ((g : DaemonConfig) → own_refusal g old shape ≡ None)
@@ -66,7 +66,7 @@ module _ (past : List Update) (old : State) (shape : Shape) (left : List ℕ) {X
       → IfOk result (λ found. Judges past old shape left past old (view found))
   placed_ok refusal own placed never result is =
       judged_ok past old shape left past old view (No refusal) tt
-      (placed_permitted past old shape refusal (own (config_at 0)) placed) refl
+      (placed_permitted past old shape refusal (own (config_at 0)) placed) (sym (refused-behind past shape refusal))
       (λ g. placed_only past old shape refusal g (own g) placed (never g)) result is
 
   -- nothing does, and the history stays as it is

@@ -16,7 +16,7 @@ use Rattle.kn_transcript.specs.Accepted.{is_foreign, is_value}
 use Rattle.kn_transcript.specs.Judging.{state_of, Takes, Judges, JudgesReply}
 use Rattle.kn_transcript.specs.Progress.{IsAnsweredBy, IsMissed, IsFaultAt, IsRequestJudged, IsBehindReply, IsMovedOn}
 use Rattle.kn_transcript.specs.Progress.{NoneIsPermitted, begins_with_value, counted}
-use Rattle.kn_transcript.proofs.ConfigChoices.{config_at}
+use Rattle.kn_transcript.proofs.ConfigChoices.{config_at, lacking-behind}
 
 memory_or_not : (reply : Reply) → (reply ≡ NoMemory) ⊎ (reply ≢ NoMemory)
 memory_or_not Done = inr (λ e. cc e)
@@ -60,7 +60,7 @@ module _ (past : List Update) (old : State) (shape : Shape) (left : List ℕ) wh
       cut = cut;
       permitted = record { grounds = config_at 0; faults = λ text assertion. omega arith; permitted = (may, refl) };
     };
-    behind = refl;
+    behind = sym (lacking-behind past shape);
   }
 
   -- it doesn't stand there, and other replies were judged

@@ -15,7 +15,7 @@ use Rattle.kn_transcript.specs.declared.fault.TheConstants.{AUTH_FAULTS}
 use Rattle.kn_transcript.specs.Followed.{IsPermitted, history_behind}
 use Rattle.kn_transcript.specs.Judging.{IsBehind, Judges}
 use Rattle.kn_transcript.proofs.ConfigChoices.{OnlyAt, config_at, is_acceptance, own_only, own_permitted, placed_only}
-use Rattle.kn_transcript.proofs.ConfigChoices.{placed_permitted, done_only, done_permitted}
+use Rattle.kn_transcript.proofs.ConfigChoices.{placed_permitted, done_only, done_permitted, refused-behind}
 use Rattle.kn_transcript.proofs.DueReplies.{taken_by, refused_ok}
 
 -- what an authenticator says of each text is the number of a fault
@@ -97,7 +97,7 @@ module _ (past : List Update) (old : State) (update : Updating) (left : List ℕ
     update_refused refusal zero may behind =
         judged_or past old (Updates update) left V past old result view none (No refusal) tt
         (own_permitted past old (Updates update) refusal 0 (omega arith) (own_of (config_at 0) (Some refusal) zero))
-        refl
+        (sym (refused-behind past (Updates update) refusal))
         (only_or (Some refusal) (No refusal) may (λ g own. own_only past old (Updates update) refusal g own)) behind
 
     -- the history refuses it
@@ -107,7 +107,8 @@ module _ (past : List Update) (old : State) (update : Updating) (left : List ℕ
         → IfOk result (λ found. IsBehind left (reply_text (No refusal)) (view found)) → Keeps
     update_placed refusal zero may placed never behind =
         judged_or past old (Updates update) left V past old result view none (No refusal) tt
-        (placed_permitted past old (Updates update) refusal (own_of (config_at 0) None zero) placed) refl
+        (placed_permitted past old (Updates update) refusal (own_of (config_at 0) None zero) placed)
+        (sym (refused-behind past (Updates update) refusal))
         (only_or None (No refusal) may (λ g own. placed_only past old (Updates update) refusal g own placed
         (λ reply other does. never reply does.answered))) behind
 
