@@ -1,6 +1,6 @@
 -- Who is an administrator, and what is added.
-use Rattle.std.proofs.Common.{◌≡◌, ◌≢◌, ℕ, ◌+◌, Bool, true, false, cond, ◌&&◌, not, ◌==◌, List, [], ◌∷◌, length, All}
-use Rattle.std.proofs.Common.{Option, Some, None, Result, Ok, Err, refl, sym, ap, ◌∙◌, subst, eqb-true}
+use Rattle.std.proofs.Common.{◌≡◌, ◌≢◌, ℕ, ◌+◌, Bool, true, false, cond, ◌&&◌, not, ◌==◌, List, [], ◌∷◌, length}
+use Rattle.std.proofs.Common.{Option, Some, None, refl, sym, ap, ◌∙◌, eqb-true}
 use Rattle.std.specs.Prelude.{nat_lt}
 use Rattle.std.specs.List.{AllByRecursion}
 use Rattle.std.specs.Str.{bytes_eq}
@@ -9,21 +9,19 @@ use Rattle.std.proofs.lemmas.List.Elements.{All-from_recursion}
 use Rattle.kn_env.specs.Values.{values_of}
 use Rattle.kn_trees.specs.declared.assertion.Assertion.{Assertion}
 use Rattle.kn_assert.specs.Reading.{reading_of}
-use Rattle.kn_fields.specs.declared.fault.ReadFault.{ReadFault}
 use Rattle.kn_history.specs.declared.update.Update.{Update}
 use Rattle.kn_history.specs.Retained.{retained_version}
 use Rattle.kn_wire.specs.Items.{BatchItem, items_of}
 use Rattle.kn_reply.specs.declared.refusal.Refusal.{Refusal}
 use Rattle.kn_reply.specs.declared.refusal.Refusal.TheVariants as R
 use Rattle.kn_reply.specs.declared.refusal.ItemRefusal.{ItemRefusal}
-use Rattle.kn_reply.specs.Replies.{Reply, Added, Batched, No, NoMemory}
+use Rattle.kn_reply.specs.Replies.{Reply, No, NoMemory}
 use Rattle.kn_daemon.specs.Shapes.{AddText, ApplyBlock, Look, ForOpen, ForPin, ForPinAt, ForNews, ForLog}
 use Rattle.kn_daemon.specs.Shapes.{Question, WithProof, WithCritical, ToKeep, ShowSecret, Leave, Shape, Calls, Updates}
 use Rattle.kn_daemon.specs.Shapes.{Looks, Asks, Controls, AtFault}
 use Rattle.kn_daemon.specs.Daemon.{DaemonConfig, State, refuse_if, is_secret, refusal_at_reading, refusal_at_verdict}
 use Rattle.kn_daemon.specs.Daemon.{item_refusal, found_item, refusal_from, refusal_of_block, refusal_of_update}
-use Rattle.kn_daemon.specs.Daemon.{own_refusal, pinned_to, state_after_look, state_keeping, state_after_question, Does}
-use Rattle.kn_daemon.specs.Daemon.{Permits}
+use Rattle.kn_daemon.specs.Daemon.{pinned_to, state_after_look, state_keeping, state_after_question, Does}
 use Rattle.kn_daemon.specs.PermissionLaws.{OthersAreRefused, SecretMakesAdmin, AdminStays, AddedIsAdmitted}
 use Rattle.kn_daemon.specs.PermissionLaws.{BatchIsAdmitted}
 use Rattle.kn_daemon.proofs.Reading.{by_assertion}

@@ -1,6 +1,5 @@
 -- A reply to BATCH tells the ids of its additions.
-use Rattle.std.proofs.Common.{◌≡◌, ℕ, ◌+◌, List, length, map}
-use Rattle.kn_history.specs.declared.update.Update.{Update}
+use Rattle.std.proofs.Common.{◌≡◌, ◌+◌, length, map}
 use Rattle.kn_history.specs.History.{all_changes, additions}
 use Rattle.kn_history.specs.Batches.{numbered_from, batch_by}
 use Rattle.kn_reply.specs.Logs.{item_of}

@@ -1,8 +1,7 @@
 -- What is replied without a look at the history, and what is replied without more memory.
-use Rattle.std.proofs.Common.{◌≡◌, ℕ, Bool, true, false, List, [], Option, Some, None, refl, sym, ap, ◌∙◌}
+use Rattle.std.proofs.Common.{◌≡◌, ℕ, true, false, List, Option, Some, None, sym, ap, ◌∙◌}
 use Rattle.std.specs.Option.{option_or}
 use Rattle.kn_history.specs.declared.update.Update.{Update}
-use Rattle.kn_wire.specs.declared.fault.WireFault.{WireFault}
 use Rattle.kn_reply.specs.declared.refusal.Refusal.{Refusal}
 use Rattle.kn_reply.specs.Replies.{Reply, No, NoMemory}
 use Rattle.kn_daemon.specs.Shapes.{Updating, AddText, DropId, ApplyBlock, Look, ForOpen, ForPin, ForPinAt}

@@ -1,7 +1,7 @@
 -- Sessions that begin and end, and what stands behind BYE.
 use Rattle.std.proofs.Common.{◌≡◌, ◌≤◌, ◌<◌, ℕ, zero, suc, ◌+◌, ◌-◌, Bool, true, false, cond, not, ◌==◌, ◌||◌, List, []}
 use Rattle.std.proofs.Common.{◌∷◌}
-use Rattle.std.proofs.Common.{◌++◌, length, take, map, Option, Some, None, option_map, refl, sym, ap, ◌∙◌, subst, arith}
+use Rattle.std.proofs.Common.{◌++◌, length, take, Option, Some, None, option_map, refl, sym, ap, ◌∙◌, subst, arith}
 use Rattle.std.proofs.Common.{length-append, ltb-true}
 use Rattle.std.specs.Prelude.{IsSome, IsSomeAnd, is_none, nat_lt}
 use Rattle.std.specs.List.{list_any}
@@ -15,18 +15,17 @@ use Rattle.kn_session.proofs.StandingQueries.{found_here}
 use Rattle.kn_wire.specs.Requests.{Request, Bye}
 use Rattle.kn_reply.specs.declared.refusal.Refusal.{Refusal}
 use Rattle.kn_reply.specs.declared.refusal.Refusal.TheVariants as R
-use Rattle.kn_reply.specs.Replies.{Reply, Done, Started, No, NoMemory, Log, PinnedAt}
-use Rattle.kn_daemon.specs.declared.ended.Ended.{Ended}
+use Rattle.kn_reply.specs.Replies.{Reply, Done, Started, No, NoMemory}
 use Rattle.kn_daemon.specs.Shapes.{Look, ForOpen, ForPin, ForPinAt, ForNews, ForLog, Question, WithProof}
 use Rattle.kn_daemon.specs.Shapes.{WithCritical, ToKeep, ShowSecret, Leave, Shape, Calls, Updates, Looks, Asks}
 use Rattle.kn_daemon.specs.Shapes.{Controls}
 use Rattle.kn_daemon.specs.Shapes.{AtFault}
-use Rattle.kn_daemon.specs.Daemon.{DaemonConfig, State, session_of, refuse_if, placed_refusal, pinned_to}
+use Rattle.kn_daemon.specs.Daemon.{DaemonConfig, State, session_of, refuse_if, pinned_to}
 use Rattle.kn_daemon.specs.Daemon.{state_after_look, state_keeping}
-use Rattle.kn_daemon.specs.Daemon.{state_after_question, reply_of_call, IsLooked, Does, Permits}
+use Rattle.kn_daemon.specs.Daemon.{state_after_question, reply_of_call, Does, Permits}
 use Rattle.kn_daemon.specs.Linearized.{requests_in}
-use Rattle.kn_daemon.specs.Served.{IsServed, is_bye}
-use Rattle.kn_daemon.specs.PermissionLaws.{OpenIsNew, StartedNeverFalls, CloseEnds, UnwatchEnds}
+use Rattle.kn_daemon.specs.Served.{is_bye}
+use Rattle.kn_daemon.specs.PermissionLaws.{OpenIsNew, CloseEnds, UnwatchEnds}
 use Rattle.kn_daemon.specs.PermissionLaws.{RefusedLookIsNotReported}
 use Rattle.kn_daemon.specs.PermissionLaws.{NothingBehindBye}
 

@@ -1,16 +1,15 @@
 -- A reply to PIN tells the version that the session is then pinned to.
 use Rattle.std.proofs.Common.{◌≡◌, ◌≤◌, ℕ, ◌+◌, Bool, true, false, cond, ◌&&◌, List, length, take, Option, Some, None}
-use Rattle.std.proofs.Common.{option_map, refl, sym, ap, ◌∙◌, subst}
+use Rattle.std.proofs.Common.{option_map, refl, ap, ◌∙◌}
 use Rattle.std.specs.Prelude.{IsSome, IsSomeAnd, nat_le, nat_lt}
 use Rattle.std.proofs.lemmas.Bool.{leb-true}
 use Rattle.kn_base.specs.declared.limits.TheConstants.{RETAINED_VERSIONS}
 use Rattle.kn_history.specs.declared.update.Update.{Update}
 use Rattle.kn_history.specs.Retained.{is_retained, retained_version}
-use Rattle.kn_session.specs.Sessions.{Session, session_in, with_changed, fault_in, pin_at}
+use Rattle.kn_session.specs.Sessions.{Session, fault_in, pin_at}
 use Rattle.kn_session.proofs.StandingQueries.{found_here}
 use Rattle.kn_reply.specs.Replies.{Number, PinnedAt}
-use Rattle.kn_daemon.specs.Shapes.{ForPin, ForPinAt, Looks}
-use Rattle.kn_daemon.specs.Daemon.{DaemonConfig, State, session_of, refusal_by, pinned_to, Permits}
+use Rattle.kn_daemon.specs.Daemon.{State, session_of, refusal_by, pinned_to}
 use Rattle.kn_daemon.specs.PermissionLaws.{PinIsReported, RetainedPinIsReported}
 
 -- a session that isn't refused is open

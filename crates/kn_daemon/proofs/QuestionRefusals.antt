@@ -17,10 +17,10 @@ use Rattle.kn_reply.specs.declared.refusal.Refusal.{Refusal}
 use Rattle.kn_reply.specs.declared.refusal.Refusal.TheVariants as R
 use Rattle.kn_reply.specs.declared.refusal.LimitWord.TheVariants as W
 use Rattle.kn_reply.specs.Replies.{Critical, No}
-use Rattle.kn_daemon.specs.Shapes.{ForNews, Question, WithCritical, Calls, Looks, Asks}
+use Rattle.kn_daemon.specs.Shapes.{WithCritical, Asks}
 use Rattle.kn_daemon.specs.Daemon.{DaemonConfig, State, session_of, equations_of, refusal_by, in_session, refuse_if}
 use Rattle.kn_daemon.specs.Daemon.{refusal_of_nodes}
-use Rattle.kn_daemon.specs.Daemon.{refusal_of_names, refusal_of_question, refusal_of_call, own_refusal, Permits}
+use Rattle.kn_daemon.specs.Daemon.{refusal_of_names, refusal_of_question, refusal_of_call, Permits}
 use Rattle.kn_daemon.specs.QuestionLaws.{ClosedIsRefused, NamesAreRefused, NoneStandingIsRefused}
 
 pub closed-refused : ClosedIsRefused

@@ -33,11 +33,11 @@ use Rattle.kn_daemon.specs.Daemon.{refusal_at_verdict, refusal_at_store, item_re
 use Rattle.kn_daemon.specs.Daemon.{refusal_of_block, refusal_of_update, refusal_of_look, refusal_of_store}
 use Rattle.kn_daemon.specs.Daemon.{refusal_of_item_fault, refusal_of_batch, own_refusal, placed_refusal_of_update}
 use Rattle.kn_daemon.specs.Daemon.{placed_refusal_of_look, placed_refusal}
-use Rattle.kn_daemon.specs.Linearized.{refuses_update, refuses_look, is_placed}
+use Rattle.kn_daemon.specs.Linearized.{history_refuses_update, history_refuses_look, is_placed}
 
 -- the history refuses the item of this number
 abbrev refuses_item : ℕ → ItemRefusal → Bool
-refuses_item number inner = refuses_update (R.Item number inner)
+refuses_item number inner = history_refuses_update (R.Item number inner)
 
 -- of a refusal, if there is one, this is so
 abbrev Each : {X : Type 0} → (X → Bool) → Bool → Option X → Type 0
@@ -78,63 +78,65 @@ item-each g number (B.AddText text) =
 item-each g number (B.DropId k) = tt
 
 items-each : (g : DaemonConfig) (number : ℕ) (items : List BatchItem)
-    → Each refuses_update false (refusal_from g number items)
+    → Each history_refuses_update false (refusal_from g number items)
 items-each g number [] = tt
 items-each g number (item ∷ items) = by (item_refusal g item) (item-each g number item)
     (items-each g (number + 1) items)
   where
     by : (o : Option ItemRefusal) → Each (refuses_item number) false o
-        → Each refuses_update false (refusal_from g (number + 1) items)
-        → Each refuses_update false (found_item number o (refusal_from g (number + 1) items))
+        → Each history_refuses_update false (refusal_from g (number + 1) items)
+        → Each history_refuses_update false (found_item number o (refusal_from g (number + 1) items))
     by None h later = later
     by (Some inner) h later = h
 
 block-each : (g : DaemonConfig) (items : Result (List BatchItem) ℕ)
-    → Each refuses_update false (refusal_of_block g items)
+    → Each history_refuses_update false (refusal_of_block g items)
 block-each g (Ok items) = items-each g 1 items
 block-each g (Err number) = refl
 
-update-each : (g : DaemonConfig) (update : Updating) → Each refuses_update false (refusal_of_update g update)
+update-each : (g : DaemonConfig) (update : Updating) → Each history_refuses_update false (refusal_of_update g update)
 update-each g (AddText text) =
-    reading-each refuses_update false R.Read R.Auth (λ number place. refl) (λ number. refl) (g.verdict text)
+    reading-each history_refuses_update false R.Read R.Auth (λ number place. refl) (λ number. refl) (g.verdict text)
     (reading_of text)
 update-each g (DropId k) = tt
 update-each g (ApplyBlock block) = block-each g (items_of block)
 
 session-each : (s : ℕ) (session : Option Session) (fault : Session → Option SessionFault)
-    → ((x : Session) → Each refuses_look false (refusal_by (fault x)))
-    → Each refuses_look false (refusal_by (fault_in s session fault))
+    → ((x : Session) → Each history_refuses_look false (refusal_by (fault x)))
+    → Each history_refuses_look false (refusal_by (fault_in s session fault))
 session-each s None fault own = refl
 session-each s (Some session) fault own = own session
 
 -- there is no standing query, or nothing is refused
-standing-each : (x : Session) → Each refuses_look false (refusal_by (standing_fault x))
+standing-each : (x : Session) → Each history_refuses_look false (refusal_by (standing_fault x))
 standing-each x = by (is_none x.standing)
   where
-    by : (b : Bool) → Each refuses_look false (refusal_by (fault_if b F.Absent None))
+    by : (b : Bool) → Each history_refuses_look false (refusal_by (fault_if b F.Absent None))
     by true = refl
     by false = tt
 
-look-each : (state : State) (look : Look) → Each refuses_look false (refusal_of_look state look)
+look-each : (state : State) (look : Look) → Each history_refuses_look false (refusal_of_look state look)
 look-each state ForOpen = by (nat_le SESSIONS (length state.sessions))
   where
-    by : (b : Bool) → Each refuses_look false (refusal_by (fault_if b (F.Sessions (length state.sessions)) None))
+    by : (b : Bool) → Each history_refuses_look false
+        (refusal_by (fault_if b (F.Sessions (length state.sessions)) None))
     by true = refl
     by false = tt
 look-each state (ForPin s) = session-each s (session_of state s) (λ x. None) (λ x. tt)
 look-each state (ForPinAt s version) = session-each s (session_of state s) (λ x. None) (λ x. tt)
 look-each state (ForNews s) = session-each s (session_of state s) standing_fault standing-each
-look-each state (ForLog n) = if-each refuses_look false (not state.is_admin) R.Admin None refl tt
+look-each state (ForLog n) = if-each history_refuses_look false (not state.is_admin) R.Admin None refl tt
 
 pub own-unplaced : (g : DaemonConfig) (state : State) (shape : Shape) (refusal : Refusal)
     → own_refusal g state shape ≡ Some refusal → is_placed shape (No refusal) ≡ false
 own-unplaced g state (Calls s call) refusal e = refl
 own-unplaced g state (Updates update) refusal e =
-    the-one refuses_update false (own_refusal g state (Updates update)) refusal
-    (if-each refuses_update false (not state.is_admin) R.Admin (refusal_of_update g update) refl (update-each g update))
+    the-one history_refuses_update false (own_refusal g state (Updates update)) refusal
+    (if-each history_refuses_update false (not state.is_admin) R.Admin (refusal_of_update g update) refl
+    (update-each g update))
     e
 own-unplaced g state (Looks look) refusal e =
-    the-one refuses_look false (refusal_of_look state look) refusal (look-each state look) e
+    the-one history_refuses_look false (refusal_of_look state look) refusal (look-each state look) e
 own-unplaced g state (Asks question s names) refusal e = refl
 own-unplaced g state (Controls control) refusal e = refl
 own-unplaced g state (AtFault fault) refusal e = refl
@@ -152,52 +154,54 @@ store-each p unknown limit at_unknown at_limit (U.HistoryFull updates) = at_limi
 store-each p unknown limit at_unknown at_limit (U.LogFull bytes) = at_limit W.LogBytes bytes
 store-each p unknown limit at_unknown at_limit U.NoMemory = tt
 
-change-each : (fault : Option StoreFault) → Each refuses_update true (option_and_then refusal_of_store fault)
+change-each : (fault : Option StoreFault) → Each history_refuses_update true (option_and_then refusal_of_store fault)
 change-each None = tt
-change-each (Some fault) = store-each refuses_update R.Unknown R.Limit refl (λ word count. refl) fault
+change-each (Some fault) = store-each history_refuses_update R.Unknown R.Limit refl (λ word count. refl) fault
 
-fault-each : (number : ℕ) (fault : StoreFault) → Each refuses_update true (refusal_of_item_fault number fault)
+fault-each : (number : ℕ) (fault : StoreFault) → Each history_refuses_update true (refusal_of_item_fault number fault)
 fault-each number fault =
     by (refusal_at_store I.Unknown I.Limit fault)
     (store-each (refuses_item number) I.Unknown I.Limit refl (λ word count. refl) fault)
   where
     by : (o : Option ItemRefusal) → Each (refuses_item number) true o
-        → Each refuses_update true (option_map (λ inner. R.Item number inner) o)
+        → Each history_refuses_update true (option_map (λ inner. R.Item number inner) o)
     by None h = tt
     by (Some inner) h = h
 
 batch-each : (past : List Update) (items : Result (List BatchItem) ℕ)
-    → Each refuses_update true (refusal_of_batch past items)
+    → Each history_refuses_update true (refusal_of_batch past items)
 batch-each past (Ok items) = by (refusal_of_items (all_changes past) (map item_of items))
   where
     by : (o : Option (ℕ × StoreFault))
-        → Each refuses_update true (option_and_then (λ found. refusal_of_item_fault found.0 found.1) o)
+        → Each history_refuses_update true (option_and_then (λ found. refusal_of_item_fault found.0 found.1) o)
     by None = tt
     by (Some found) = fault-each found.0 found.1
 batch-each past (Err number) = tt
 
 placed-update-each : (past : List Update) (update : Updating)
-    → Each refuses_update true (placed_refusal_of_update past update)
+    → Each history_refuses_update true (placed_refusal_of_update past update)
 placed-update-each past (AddText text) = change-each (refusal_of_text (all_changes past) text)
 placed-update-each past (DropId k) = change-each (refusal_of_id (all_changes past) k)
 placed-update-each past (ApplyBlock block) = batch-each past (items_of block)
 
-placed-look-each : (past : List Update) (look : Look) → Each refuses_look true (placed_refusal_of_look past look)
+placed-look-each : (past : List Update) (look : Look)
+    → Each history_refuses_look true (placed_refusal_of_look past look)
 placed-look-each past ForOpen = tt
 placed-look-each past (ForPin s) = tt
 placed-look-each past (ForNews s) = tt
 placed-look-each past (ForPinAt s version) =
-    if-each refuses_look true (is_none (retained_version past version)) (R.Retained (length past)) None refl tt
+    if-each history_refuses_look true (is_none (retained_version past version)) (R.Retained (length past)) None refl tt
 placed-look-each past (ForLog n) =
-    if-each refuses_look true (nat_lt (length past) n) (R.Ahead (length past)) None refl tt
+    if-each history_refuses_look true (nat_lt (length past) n) (R.Ahead (length past)) None refl tt
 
 pub history-placed : (past : List Update) (shape : Shape) (refusal : Refusal) → placed_refusal past shape ≡ Some refusal
     → is_placed shape (No refusal) ≡ true
 history-placed past (Calls s call) refusal e = absurd (cc (e))
 history-placed past (Updates update) refusal e =
-    the-one refuses_update true (placed_refusal_of_update past update) refusal (placed-update-each past update) e
+    the-one history_refuses_update true (placed_refusal_of_update past update) refusal (placed-update-each past update)
+    e
 history-placed past (Looks look) refusal e =
-    the-one refuses_look true (placed_refusal_of_look past look) refusal (placed-look-each past look) e
+    the-one history_refuses_look true (placed_refusal_of_look past look) refusal (placed-look-each past look) e
 history-placed past (Asks question s names) refusal e = absurd (cc (e))
 history-placed past (Controls control) refusal e = absurd (cc (e))
 history-placed past (AtFault fault) refusal e = absurd (cc (e))

@@ -1,6 +1,8 @@
 -- The sequential specification: what a daemon of one thread may reply (keynoted's own; the calls are those of
--- keynote(3)). Requests are known by their shape, and each shape has its cases in `own_refusal`, `placed_refusal`,
--- `state_after`, `Answers` and `may_lack_memory`.
+-- keynote(3)). Requests are known by their shape, which has its cases in `own_refusal`, `placed_refusal`,
+-- `state_after`,
+-- `Answers` and `may_lack_memory`; where the last equation of one is for all other shapes, nothing is refused there,
+-- nothing changes, and memory doesn't run out.
 use Rattle.std.specs.Prelude.{ℕ, ◌≡◌, ◌+◌, ◌≤◌, Bool, true, false, ◌==◌, ◌&&◌, not, nat_lt, List, [], ◌∷◌, ◌++◌, length}
 use Rattle.std.specs.Prelude.{map, slice_index_or, Option, Some, None, option_map, option_and_then, is_none}
 use Rattle.std.specs.Prelude.{IsSome, IsSomeAnd, Result, Ok, Err, if◌then◌else◌}
@@ -396,9 +398,10 @@ pub record Does (g : DaemonConfig) (caller : ℕ) (past : List Update) (old : St
 -- the requests to which `NoMemory` may be the reply; then nothing has changed
 abbrev pub may_lack_memory : Shape → Bool
 may_lack_memory (Calls s call) = call_may_lack_memory call
-may_lack_memory (Controls control) = false
-may_lack_memory (AtFault fault) = false
-may_lack_memory shape = true
+may_lack_memory (Updates update) = true
+may_lack_memory (Looks look) = true
+may_lack_memory (Asks question s names) = true
+may_lack_memory shape = false
 
 -- A daemon of one thread may give this reply to the caller's request of this shape after this history, and be in the
 -- state `new` then.

@@ -9,12 +9,10 @@ use Rattle.kn_history.specs.declared.item.Item.{Item}
 use Rattle.kn_wire.specs.Requests.{Request}
 use Rattle.kn_wire.specs.Items.{BatchItem, items_of}
 use Rattle.kn_reply.specs.Logs.{item_of}
-use Rattle.kn_reply.specs.Replies.{Reply, Number, Added, Batched}
-use Rattle.kn_reply.specs.Replies.{No, NoMemory, reply_text}
+use Rattle.kn_reply.specs.Replies.{Reply, Number, Added, Batched, No, NoMemory, reply_text}
 use Rattle.kn_history.specs.Batches.{batch_by}
 use Rattle.kn_history.specs.History.{is_valid_history, addition_by, removal_by, own_updates}
-use Rattle.kn_daemon.specs.Shapes.{Updating, AddText, DropId, ApplyBlock, Shape, Updates, Looks}
-use Rattle.kn_daemon.specs.Shapes.{shape_of}
+use Rattle.kn_daemon.specs.Shapes.{Updating, AddText, DropId, ApplyBlock, Shape, Updates, Looks, shape_of}
 use Rattle.kn_daemon.specs.Daemon.{DaemonConfig, State, Permits}
 
 -- a request, its reply, and the place in the history where it stands: after so many updates
@@ -50,6 +48,7 @@ accepted_update caller (ApplyBlock block) (Batched first added version) =
     option_map (batch_by caller first) (read_items (items_of block))
 accepted_update caller update reply = None
 
+-- the caller's update that a request of this shape and its reply name, if they name one
 abbrev pub update_by : ℕ → Shape → Reply → Option Update
 update_by caller (Updates update) reply = accepted_update caller update reply
 update_by caller shape reply = None
@@ -67,24 +66,25 @@ abbrev pub InOrder : ℕ → ℕ → List Exchange → ℕ → Type 0
 InOrder caller low [] high = low ≤ high
 InOrder caller low (e ∷ es) high = IsBehind (update_of caller e) low e.place × InOrder caller e.place es high
 
--- What the history refuses, and not the state: an update, or a look. An id that isn't there is the history's refusal of
--- an update, and else the state's.
-abbrev pub refuses_update : Refusal → Bool
-refuses_update R.Unknown = true
-refuses_update (R.Limit word count) = true
-refuses_update (R.Item item I.Unknown) = true
-refuses_update (R.Item item (I.Limit word count)) = true
-refuses_update refusal = false
+-- What of an update, or of a look, the history refuses, and not the state. What isn't there and limits are the
+-- history's
+-- refusals of an update, and else the state's.
+abbrev pub history_refuses_update : Refusal → Bool
+history_refuses_update R.Unknown = true
+history_refuses_update (R.Limit word count) = true
+history_refuses_update (R.Item item I.Unknown) = true
+history_refuses_update (R.Item item (I.Limit word count)) = true
+history_refuses_update refusal = false
 
-abbrev pub refuses_look : Refusal → Bool
-refuses_look (R.Retained newest) = true
-refuses_look (R.Ahead newest) = true
-refuses_look refusal = false
+abbrev pub history_refuses_look : Refusal → Bool
+history_refuses_look (R.Retained newest) = true
+history_refuses_look (R.Ahead newest) = true
+history_refuses_look refusal = false
 
 -- a request of this shape is refused by the history, so the refusal depends on the place
 abbrev pub is_by_history : Shape → Refusal → Bool
-is_by_history (Updates update) refusal = refuses_update refusal
-is_by_history (Looks look) refusal = refuses_look refusal
+is_by_history (Updates update) refusal = history_refuses_update refusal
+is_by_history (Looks look) refusal = history_refuses_look refusal
 is_by_history shape refusal = false
 
 -- the history at the place is changed or looked at
@@ -93,8 +93,8 @@ meets_history (Updates update) = true
 meets_history (Looks look) = true
 meets_history shape = false
 
--- whether the reply to a request of this shape depends on its place: an update was accepted there, or a version or
--- updates were taken, or the history refused it
+-- whether a reply that is permitted to a request of this shape depends on its place: an update was accepted there, or a
+-- version or updates were taken, or the history refused it
 abbrev pub is_placed : Shape → Reply → Bool
 is_placed shape (No refusal) = is_by_history shape refusal
 is_placed shape NoMemory = false

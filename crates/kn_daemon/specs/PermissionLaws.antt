@@ -1,7 +1,7 @@
 -- Laws of what is permitted: of pins, of administrators and what they add, of sessions that begin and end, of batches,
 -- and of what stands behind BYE.
 use Rattle.std.specs.Prelude.{ℕ, ◌≡◌, ◌≢◌, ◌+◌, ◌≤◌, Bool, true, false, List, [], ◌∷◌, ◌++◌, length, take, All}
-use Rattle.std.specs.Prelude.{Option, Some, None, Ok, IsSomeAnd}
+use Rattle.std.specs.Prelude.{Some, None, Ok, IsSomeAnd}
 use Rattle.kn_trees.specs.declared.assertion.Assertion.{Assertion}
 use Rattle.kn_assert.specs.Reading.{assertion_of}
 use Rattle.kn_history.specs.declared.update.Update.{Update}

@@ -5,8 +5,7 @@ use Rattle.std.specs.Option.{option_map_or}
 use Rattle.kn_env.specs.Values.{values_of}
 use Rattle.kn_history.specs.declared.update.Update.{Update}
 use Rattle.kn_wire.specs.Requests.{Request}
-use Rattle.kn_daemon.specs.Shapes.{WithProof, Shape, Asks}
-use Rattle.kn_daemon.specs.Shapes.{shape_of}
+use Rattle.kn_daemon.specs.Shapes.{WithProof, Shape, Asks, shape_of}
 use Rattle.kn_daemon.specs.Daemon.{DaemonConfig, State, first_state, session_of, own_refusal, state_after}
 use Rattle.kn_session.specs.Sessions.{Session}
 use Rattle.kn_daemon.specs.Served.{is_bye, is_block}

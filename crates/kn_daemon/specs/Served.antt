@@ -9,8 +9,7 @@ use Rattle.kn_wire.specs.Requests.{Request, Bye, Faulty, Takes}
 use Rattle.kn_wire.specs.Requests.{first_of}
 use Rattle.kn_daemon.specs.declared.ended.Ended.{Ended}
 use Rattle.kn_daemon.specs.declared.ended.Ended.TheVariants as E
-use Rattle.kn_daemon.specs.Shapes.{Leave, Shape, Controls}
-use Rattle.kn_daemon.specs.Shapes.{shape_of}
+use Rattle.kn_daemon.specs.Shapes.{Leave, Shape, Controls, shape_of}
 use Rattle.kn_daemon.specs.Daemon.{DaemonConfig, State, first_state}
 use Rattle.kn_daemon.specs.Linearized.{Exchange, Along, IsLinearized, requests_in, texts_in}
 

@@ -18,8 +18,8 @@ pub data Updating : Type 0 where
   DropId : ℕ → Updating
   ApplyBlock : List ℕ → Updating
 
--- A look at the history at the place of the request: its version for a new session, for an open one, or for the
--- standing query of one; for an open session a retained version, by its number; or the updates behind the first n.
+-- A look at the history at the place of the request: its version for a new session, or for an open one; for an open
+-- session a retained version, by its number; its version for a standing query; or the updates behind the first n.
 pub data Look : Type 0 where
   ForOpen : Look
   ForPin : ℕ → Look
