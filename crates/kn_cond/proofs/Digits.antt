@@ -1,40 +1,14 @@
 -- The digits that a text begins with, and their number.
-use Rattle.std.proofs.Common.{◌≡◌, ℕ, pos, negsuc, neg_ℤ, suc, zero, ◌+◌, ◌-◌, ◌*◌, ◌^◌, ◌<◌, ◌≤◌, ◌⊎◌, inl, inr, min}
-use Rattle.std.proofs.Common.{Bool, true, false, ◌&&◌, cond, List, [], ◌∷◌, length, take, drop, get_or, refl, sym, ap}
-use Rattle.std.proofs.Common.{◌∙◌, arith, lit<, if◌then◌else◌}
+use Rattle.std.proofs.Common.{◌≡◌, ℕ, suc, ◌+◌, ◌-◌, ◌*◌, ◌^◌, ◌<◌, ◌≤◌}
+use Rattle.std.proofs.Common.{Bool, true, false, cond, List, [], ◌∷◌, length, take, drop, get_or, refl, sym, ap}
+use Rattle.std.proofs.Common.{◌∙◌, arith, lit<}
 use Rattle.std.specs.Prelude.{nat_le}
 use Rattle.std.proofs.Math.Nat.{pow-le-pow_right, mul-le-mul_left}
-use Rattle.std.proofs.lemmas.Bool.{cases_lt, lt-leb, leb-true, and_parts}
+use Rattle.std.proofs.lemmas.Bool.{leb-true, and_parts}
 use Rattle.std.specs.List.{list_all, prefix_len}
 use Rattle.kn_base.specs.Decimal.{is_digit, digits_value}
 use Rattle.kn_base.proofs.Digits.{rest_at}
-use Rattle.kn_cond.specs.Meaning.{whole, fault, whole_in_range, front_digits}
-
-above_range : (v : ℕ) → 2147483647 < v → whole_in_range (pos v) ≡ fault
-above_range v beyond = ap (λ b. if b then whole (pos v) else fault) (lt-leb v 2147483647 beyond)
-
-below_range : (v : ℕ) → 2147483648 < v → whole_in_range (neg_ℤ (pos v)) ≡ fault
-below_range zero beyond = absurd (omega arith)
-below_range (suc m) beyond = let past : 2147483647 < m = omega arith in
-    ap (λ b. if b && true then whole (negsuc m) else fault) (lt-leb m 2147483647 past)
-
--- a number that lies beyond stands for each other one
-pub whole_capped : (v : ℕ) → whole_in_range (pos (min v 2147483649)) ≡ whole_in_range (pos v)
-whole_capped v = by (cases_lt 2147483649 v)
-  where
-    by : (2147483649 < v) ⊎ (v ≤ 2147483649) → whole_in_range (pos (min v 2147483649)) ≡ whole_in_range (pos v)
-    by (inl beyond) = let e : min v 2147483649 ≡ 2147483649 = omega arith in ap (λ n. whole_in_range (pos n)) e
-        ∙ sym (above_range v (omega arith))
-    by (inr within) = let e : min v 2147483649 ≡ v = omega arith in ap (λ n. whole_in_range (pos n)) e
-
-pub whole_capped_below : (v : ℕ) → whole_in_range (neg_ℤ (pos (min v 2147483649))) ≡ whole_in_range (neg_ℤ (pos v))
-whole_capped_below v = by (cases_lt 2147483649 v)
-  where
-    by : (2147483649 < v) ⊎ (v ≤ 2147483649)
-        → whole_in_range (neg_ℤ (pos (min v 2147483649))) ≡ whole_in_range (neg_ℤ (pos v))
-    by (inl beyond) = let e : min v 2147483649 ≡ 2147483649 = omega arith in ap (λ n. whole_in_range (neg_ℤ (pos n))) e
-        ∙ sym (below_range v (omega arith))
-    by (inr within) = let e : min v 2147483649 ≡ v = omega arith in ap (λ n. whole_in_range (neg_ℤ (pos n))) e
+use Rattle.kn_cond.specs.Meaning.{front_digits}
 
 suc_front : (n byte : ℕ) (bytes : List ℕ) → take (1 + n) (byte ∷ bytes) ≡ byte ∷ take n bytes
 suc_front n byte bytes = let e : 1 + n ≡ suc n = omega arith in ap (λ m. take m (byte ∷ bytes)) e

@@ -1,5 +1,5 @@
 -- The names among tokens, as a set that grows with them.
-use Rattle.std.proofs.Common.{◌≡◌, ℕ, true, false, List, [], ◌∷◌, ◌++◌, arith}
+use Rattle.std.proofs.Common.{◌≡◌, ℕ, true, List, [], ◌∷◌, ◌++◌, arith}
 use Rattle.std.specs.Borrow.{Bor}
 use Rattle.std.specs.BTreeSet.{BTreeSet, UpdatesBy}
 use Rattle.std.specs.Cmp.Lexicographic.{slice_cmp}
@@ -9,16 +9,6 @@ use Rattle.std.proofs.lemmas.Map.Text.{is_eq-slice_cmp}
 use Rattle.kn_lex.specs.Cutting.{TokenView}
 use Rattle.kn_fields.specs.Constants.{is_name_sort}
 use Rattle.kn_fields.specs.Expectations.{AreNames}
-
--- a set has no names before the first token
-pub no_names : (names : BTreeSet (Bor (List ℕ))) → names.keys ≡ [] → AreNames names []
-no_names names none = λ name. grind arith
-
--- a token that is no name adds none
-pub names_same : (names : BTreeSet (Bor (List ℕ))) (before : List TokenView) (token : TokenView)
-    → is_name_sort token.sort ≡ false
-    → AreNames names before → AreNames names (before ++ token ∷ [])
-names_same names before token other are = λ name. grind (arith, list_any-append, are name)
 
 -- a name is added
 pub names_more : (key : Bor (List ℕ)) (old new : BTreeSet (Bor (List ℕ))) (before : List TokenView) (token : TokenView)

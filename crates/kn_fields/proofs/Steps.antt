@@ -7,7 +7,6 @@ use Rattle.kn_fields.specs.Words.{Word}
 use Rattle.kn_fields.specs.Reading.{Read, Reader, map_read, then_read, behind_sign, with_front, more_at, tail_at}
 use Rattle.kn_fields.specs.Reading.{list_at, whole, Reads, ReadsWhole}
 use Rattle.kn_fields.specs.declared.grammar_fault.GrammarFault.{GrammarFault}
-use Rattle.kn_fields.specs.declared.grammar_fault.GrammarFault.TheVariants.{Syntax, NoMemory}
 
 -- what is read, taken apart
 
@@ -63,13 +62,6 @@ whole_read read x e = grind arith
 pub reads_along : {X : Type 0} {one other : Read X} (result : Result X GrammarFault) (rest : List Word) → other ≡ one
     → Reads result one rest → Reads result other rest
 reads_along result rest is read = rw is read
-
--- the fault of a part of what is read is that of all of it
-pub fault_of_part : {X Y : Type 0} (grammar_fault : GrammarFault) (part : Read X) (all : Read Y) (rest left : List Word)
-    → Reads {X = X} (Err grammar_fault) part rest → (part ≡ None → all ≡ None)
-    → Reads {X = Y} (Err grammar_fault) all left
-fault_of_part Syntax part all rest left read go = go read
-fault_of_part NoMemory part all rest left read go = tt
 
 -- so where the fault is handed on
 pub fault_handed_on : {X Y : Type 0} {part : Read X} {all : Read Y} (grammar_fault : GrammarFault)

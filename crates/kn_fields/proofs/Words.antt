@@ -6,7 +6,7 @@ use Rattle.std.proofs.lemmas.Option.{some_pair_parts}
 use Rattle.std.proofs.lemmas.Slice.Eq.{bytes_eq-Decides}
 use Rattle.kn_lex.specs.Cutting.{TokenView}
 use Rattle.kn_fields.specs.Fields.{between}
-use Rattle.kn_fields.specs.Words.{Word, Mark, words_of, first_sign, rest_of, with_rest, itself, mark_if}
+use Rattle.kn_fields.specs.Words.{Word, Mark, words_of, itself, mark_if}
 use Rattle.kn_fields.specs.Reading.{taken, marked, named}
 use Rattle.kn_fields.specs.Words.Word.{name, sign}
 use Rattle.kn_fields.proofs.Between.{steps, between_length}
@@ -23,26 +23,6 @@ words_length tokens at end ordered within = grind (arith, length_words, between_
 
 -- a step of a cursor
 pub ruleset cursor_steps = (steps, words_length)
-
-pub same_bytes : (xs ys : List ℕ) → bytes_eq xs ys ≡ true → xs ≡ ys
-same_bytes xs ys = (bytes_eq-Decides xs ys).0
-
--- no sign stands at the front
-pub none_taken : {S : Type 0} (which : List ℕ → Option S) (words : List Word) → None ≡ first_sign words
-    → None ≡ taken which words
-unfolding taken
-none_taken which words none = grind arith
-
--- the sign at the front stands for this, or for nothing
-pub sign_taken : {S : Type 0} (which : List ℕ → Option S) (words rest : List Word) (text : List ℕ) (found : Option S)
-    → Some text ≡ first_sign words → found ≡ which text → rest ≡ rest_of words
-    → with_rest found rest ≡ taken which words
-unfolding taken
-sign_taken which words rest text found there stands is = grind arith
-
-pub sign_left : {S : Type 0} (which : List ℕ → Option S) (words : List Word) (text : List ℕ)
-    → Some text ≡ first_sign words → None ≡ which text → None ≡ taken which words
-sign_left which words text there stands = sign_taken which words (rest_of words) text None there stands refl
 
 pub is_itself : (wanted text : List ℕ) → bytes_eq text wanted ≡ true → Some tt ≡ itself wanted text
 unfolding itself

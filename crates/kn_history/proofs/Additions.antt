@@ -45,9 +45,6 @@ pub record AreAddedUpTo (past : List Update) (caller : ℕ) (texts : List (List 
   pub made_is : made ≡ past ++ additions_by caller (additions (all_changes past)) front
   pub follow : updates_may_follow (all_changes past) (additions_by caller (additions (all_changes past)) front) ≡ true
 
-pub none_added : (past : List Update) (caller : ℕ) (texts : List (List ℕ)) → AreAddedUpTo past caller texts past texts
-none_added past caller texts = record { front = []; cut = refl; made_is = sym (append-nil past); follow = refl }
-
 -- each of them by an update
 pub made_count : (past : List Update) (caller : ℕ) (texts : List (List ℕ)) (made : List Update) (left : List (List ℕ))
     → (so_far : AreAddedUpTo past caller texts made left)

@@ -16,20 +16,6 @@ alike x zero (suc i) = refl
 alike x (suc n) zero = refl
 alike x (suc n) (suc i) = alike x n i
 
--- no name stands in empty chains
-pub chained_none : (names : List (List ℕ)) (heads links : List ℕ) (n : ℕ) → heads ≡ replicate n 0
-    → AreChained names 0 heads links
-chained_none names heads links n e = record {
-  heads = λ chain l.
-      let none : get_or heads chain 0 ≡ 0 = ap (λ hs. get_or hs chain 0) e ∙ alike 0 n chain in
-      record {
-        within = omega (arith, none);
-        own = λ some. absurd (omega (arith, none, some));
-        last = λ place few same. absurd (omega (arith, few));
-      };
-  links = λ place few. absurd (omega (arith, few));
-}
-
 -- the same chains of other names that begin alike
 pub last_same : (names others : List (List ℕ)) (chains chain count number : ℕ)
     → ((i : ℕ) → i < count → get_or others i [] ≡ get_or names i []) → IsLast names chains chain count number
@@ -160,20 +146,6 @@ named names chains place name e =
     let read : Some (get_or names place []) ≡ Some name =
     sym (slice_get-get_or names place [] (slice_get_within names place name e)) ∙ e in
     ap (home_of chains) (cc)
-
--- a search begins at the head of the chain
-pub sought_first : (names : List (List ℕ)) (heads links : List ℕ) (name : List ℕ) (home number : ℕ)
-    → AreChained names (length names) heads links → home ≡ home_of (length heads) name → home < length heads
-    → number ≡ get_or heads home 0 → IsSought names (length heads) name number
-sought_first names heads links name home number are is there e =
-    let last : IsLast names (length heads) home (length names) number =
-    subst (IsLast names (length heads) home (length names)) (sym e) (are.heads home there) in
-    record {
-      within = last.within;
-      own = λ some. last.own some ∙ is;
-      left = λ place f. last.last place (slice_get_within names place name f) (named names (length heads) place name f
-          ∙ sym is);
-    }
 
 -- and goes on with the name before one that isn't it
 pub sought_next : (names : List (List ℕ)) (heads links : List ℕ) (name here : List ℕ) (place number : ℕ)

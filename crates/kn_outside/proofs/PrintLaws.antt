@@ -1,5 +1,5 @@
 -- Texts that are printed one after the other, and bytes that are read one after the other.
-use Rattle.std.proofs.Common.{◌≡◌, ℕ, ◌+◌, ◌<◌, ◌≤◌, Bool, true, false, List, [], ◌++◌, length, take, drop, sym, ap}
+use Rattle.std.proofs.Common.{◌≡◌, ℕ, ◌+◌, Bool, true, false, List, [], ◌++◌, length, take, drop, sym, ap}
 use Rattle.std.proofs.Common.{◌∙◌, subst, length-append, arith, Option}
 use Rattle.std.proofs.lemmas.List.{take-append-le}
 use Rattle.std.proofs.Math.Seq.{take-add, take-append-add}
@@ -7,8 +7,7 @@ use Rattle.kn_outside.specs.Seen.{LinkSeen}
 use Rattle.kn_outside.specs.SpecifiedBytes.{more}
 use Rattle.kn_outside.specs.Faults.{Rose}
 use Rattle.kn_outside.specs.Printing.{Writes, Prints}
-use Rattle.kn_outside.specs.Reading.{Reads}
-use Rattle.kn_outside.proofs.Parts.{more_more, more_nothing, before_nothing, before_parts}
+use Rattle.kn_outside.proofs.Parts.{more_more, more_nothing}
 
 -- one text and then another, both whole
 pub writes_both : (a b : List ℕ) (l l' l'' : LinkSeen) → Writes true a l l' → Writes true b l' l''
@@ -77,20 +76,3 @@ pub writes_parts : (text : List ℕ) (done n : ℕ) (l l' l'' : LinkSeen) → Wr
 writes_parts text done n l l' l'' first second =
     subst (λ (t : List ℕ). Writes true t l l'') (sym (take-add done n text))
     (writes_both (take done text) (take n (drop done text)) l l' l'' first second)
-
--- no bytes of the input
-pub reads_nothing : (l : LinkSeen) → Reads [] l l
-reads_nothing l = record {
-  taken = ap (λ (t : Option (List ℕ)). record l { taken = t }) (more_nothing l.taken);
-  left = before_nothing l.left;
-}
-
--- some bytes of the input and then the next ones
-pub reads_both : (a b : List ℕ) (l l' l'' : LinkSeen) → Reads a l l' → Reads b l' l'' → Reads (a ++ b) l l''
-reads_both a b l l' l'' first second =
-    record {
-      taken =
-          second.taken ∙ ap (λ (x : LinkSeen). record x { taken = more b x.taken; left = l''.left }) first.taken
-          ∙ ap (λ (t : Option (List ℕ)). record l { taken = t; left = l''.left }) (more_more a b l.taken);
-      left = before_parts a b l.left l'.left l''.left first.left second.left;
-    }

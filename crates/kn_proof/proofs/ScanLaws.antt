@@ -5,7 +5,6 @@ use Rattle.std.specs.Prelude.{IfErr, MatchResult}
 use Rattle.std.proofs.lemmas.List.{flat_map_more}
 use Rattle.std.proofs.lemmas.List.Elements.{All-push}
 use Rattle.kn_proof.specs.declared.named.Id.{Id}
-use Rattle.kn_proof.specs.declared.named.NamedRow.{NamedRow}
 use Rattle.kn_proof.specs.declared.reply.ReadReply.{ReadReply}
 use Rattle.kn_proof.specs.declared.header.Header.{Header}
 use Rattle.kn_proof.specs.declared.fault.ProofFault.{ProofFault}
@@ -13,14 +12,14 @@ use Rattle.kn_proof.specs.declared.fault.ProofFault.TheVariants.{Line, Number, C
 use Rattle.kn_proof.specs.Texts.{id_text, quoted_byte, row_text}
 use Rattle.kn_proof.specs.Lines.{AreBytes}
 use Rattle.kn_proof.specs.Quoting.{HasNoByte, IsQuotedTo}
-use Rattle.kn_proof.specs.Reading.{HasHead, IsFirstFault, IsHeader, IsReplyText, IsRowLinesFault, IsUnread, header_text}
+use Rattle.kn_proof.specs.Reading.{HasHead, IsFirstFault, IsHeader, IsRowLinesFault, IsUnread, header_text}
 use Rattle.kn_proof.specs.Reading.{id_number}
 use Rattle.kn_proof.specs.Words.{AreCountedLines, AreCountedTo, AreRowWords, IsEndFault, IsFaultBehind, IsRowAt}
 use Rattle.kn_proof.proofs.Lines.{row_of_words}
 use Rattle.kn_proof.proofs.Quotes.{closed, one_principal}
-use Rattle.kn_proof.proofs.OneReplyOrFault.{one_first_fault, reply_without_fault}
+use Rattle.kn_proof.proofs.OneReplyOrFault.{reply_without_fault}
 use Rattle.kn_proof.proofs.Sizes.{row_bytes}
-use Rattle.kn_proof.proofs.WholeReplies.{fault_from, more_rows, reply_from}
+use Rattle.kn_proof.proofs.WholeReplies.{more_rows, reply_from}
 
 -- one more byte is quoted
 pub quoted_more : (text rest behind : List ℕ) (byte : ℕ) → IsQuotedTo text rest → byte < 256

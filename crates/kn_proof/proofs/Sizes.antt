@@ -1,6 +1,6 @@
 -- How many bytes the rows of a reply take.
-use Rattle.std.proofs.Common.{◌≡◌, ℕ, ◌+◌, ◌*◌, ◌<◌, ◌≤◌, ◌++◌, true, not, ◌&&◌, ◌==◌, nat_le, List, [], ◌∷◌, length}
-use Rattle.std.proofs.Common.{codes, decimal, flat_map, All, length-append, arith}
+use Rattle.std.proofs.Common.{◌≡◌, ℕ, ◌+◌, ◌*◌, ◌<◌, ◌≤◌, true, not, ◌&&◌, ◌==◌, nat_le, List, [], ◌∷◌, length}
+use Rattle.std.proofs.Common.{flat_map, All, length-append, arith}
 use Rattle.std.specs.List.{list_all, list_any}
 use Rattle.std.proofs.lemmas.Bool.{and_parts, leb-true}
 use Rattle.kn_base.specs.declared.limits.TheConstants.{COMPLIANCE_VALUE_BYTES}
@@ -11,7 +11,7 @@ use Rattle.kn_proof.specs.declared.named.Id.{Id}
 use Rattle.kn_proof.specs.declared.named.Id.TheVariants.{Shared, Private}
 use Rattle.kn_proof.specs.declared.named.NamedRow.{NamedRow}
 use Rattle.kn_proof.specs.declared.reply.ReadReply.{ReadReply}
-use Rattle.kn_proof.specs.Texts.{id_text, row_text, value_text}
+use Rattle.kn_proof.specs.Texts.{id_text, row_text}
 use Rattle.kn_proof.specs.Reading.{IsReadRow, IsReplyText, id_number}
 use Rattle.kn_proof.specs.Lines.{is_name}
 

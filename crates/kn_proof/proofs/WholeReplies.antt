@@ -13,7 +13,7 @@ use Rattle.kn_proof.specs.declared.fault.ProofFault.TheVariants as F
 use Rattle.kn_proof.specs.declared.header.Header.{Header}
 use Rattle.kn_proof.specs.Reading.{IsReadRow, IsHeader, IsReplyText, IsFirstFault, header_text}
 use Rattle.kn_proof.specs.Words.{AreRowLines, AreRowsTo, IsFaultBehind}
-use Rattle.kn_proof.proofs.OneReplyOrFault.{header_of, one_reply, reply_without_fault, one_first_fault}
+use Rattle.kn_proof.proofs.OneReplyOrFault.{header_of, one_reply, reply_without_fault}
 
 -- one more row is read
 pub more_rows : (lines rest behind : List ℕ) (rows : List NamedRow) (row : NamedRow) → AreRowsTo lines rows rest
@@ -92,10 +92,3 @@ pub only_reply : (text : List ℕ) (r : Result ReadReply ProofFault) → IfOk r 
 only_reply text (Ok read) ok err reply is = one_reply text read reply ok is
 only_reply text (Err fault) ok err reply is =
     elim err [ inl none ↦ none | inr first ↦ absurd (reply_without_fault text reply fault is first) ]
-
-pub only_fault : (text : List ℕ) (r : Result ReadReply ProofFault) → IfOk r (λ reply. IsReplyText text reply)
-    → IfErr r (λ fault. (fault ≡ F.NoMemory) ⊎ IsFirstFault text fault) → (fault : ProofFault) → IsFirstFault text fault
-    → MatchResult r (λ read. ⊥) (λ told. (told ≡ F.NoMemory) ⊎ (told ≡ fault))
-only_fault text (Ok read) ok err fault is = reply_without_fault text read fault ok is
-only_fault text (Err told) ok err fault is =
-    elim err [ inl none ↦ inl none | inr first ↦ inr (one_first_fault text told fault first is) ]

@@ -91,11 +91,5 @@ version_sync = search (sendable, set_sync, log_sync) depth 20
 earlier_send : IsSend (earlier.the_field).row
 earlier_send = search (sendable, crosses, version_send, version_sync, reserved.the_send) depth 20
 
-earlier_sync : IsSync (earlier.the_field).row
-earlier_sync = search (sendable, crosses, version_send, version_sync, reserved.the_sync) depth 20
-
 pub book_send : IsSend (book.the_field).row
 book_send = search (sendable, crosses, version_send, version_sync, earlier_send) depth 20
-
-pub book_sync : IsSync (book.the_field).row
-book_sync = search (sendable, crosses, version_send, version_sync, earlier_sync) depth 20

@@ -15,7 +15,7 @@ use Rattle.kn_trees.specs.declared.formula.Formula.TheOpen.Formula-F.{Who as ope
 use Rattle.kn_trees.specs.declared.formula.Formula.TheOpen.Formula-F.{Threshold as open_Threshold}
 use Rattle.kn_trees.specs.declared.formula.Formula.TheFolds.{fold-Formula, fold-roll-Formula}
 use Rattle.kn_trees.specs.Formulas.{total, node_step, formula_nodes, greatest_of, depth_step, formula_depth, itself}
-use Rattle.kn_trees.specs.Formulas.{sound_step, is_sound, IsReadable}
+use Rattle.kn_trees.specs.Formulas.{sound_step, is_sound}
 use Rattle.kn_meaning.specs.Formulas.{Levels, level_step, formula_level}
 use Rattle.kn_meaning.specs.Occurring.{names_step, formula_names}
 use Rattle.kn_rows.specs.Numbering.{NamedPiece, Leaf, Gate, pieces_step, formula_pieces}
@@ -221,12 +221,3 @@ flat_map-more f parts i part within here =
     ∙ ap (λ p. take i parts ++ p ∷ []) (sym here) in
     ap (flat_map f) longer ∙ flat_map-append f (take i parts) (part ∷ [])
     ∙ ap (λ bs. flat_map f (take i parts) ++ bs) (append-nil (f part))
-
--- one principal is readable from any text of one byte
-pub IsReadable-Who : (name : List ℕ) → IsReadable 1 (Who name)
-unfolding is_sound
-IsReadable-Who name = record {
-  sound = fold-Who Bool sound_step name;
-  small = let one : formula_nodes (Who name) ≡ 1 = formula_nodes-Who name in omega arith;
-  shallow = let one : formula_depth (Who name) ≡ 1 = formula_depth-Who name in omega arith;
-}

@@ -1,6 +1,6 @@
 -- Names that get numbers behind the others.
 use Rattle.std.proofs.Common.{◌≡◌, ℕ, suc, zero, ◌+◌, ◌<◌, ◌≤◌, ◌⊎◌, Bool, true, false, ◌||◌, List, [], ◌∷◌, ◌++◌}
-use Rattle.std.proofs.Common.{slice_get, get_or, take, length, map, Some, Result, Ok, Err, OnOk, IfOk, inl, inr, refl}
+use Rattle.std.proofs.Common.{slice_get, get_or, take, length, map, Some, Result, Ok, Err, OnOk, inl, inr, refl}
 use Rattle.std.proofs.Common.{sym, ap, ◌∙◌, subst, arith}
 use Rattle.std.specs.List.{list_any}
 use Rattle.std.specs.Str.{bytes_eq}
@@ -171,15 +171,6 @@ among_one other name among = by (bytes_eq other name) refl among
 one_among : (other name : List ℕ) → other ≡ name → list_any (bytes_eq other) (name ∷ []) ≡ true
 one_among other name same = ap (λ b. b || false) (bytes_eq-same other name same)
 
--- a name that has a number already
-pub AddsNames-known : (names : List (List ℕ)) (name : List ℕ) (p : ℕ) → IsNumber names name p
-    → AddsNames (name ∷ []) names names
-AddsNames-known names name p here = record {
-  keeps = λ q other there. there;
-  all = λ other among. (p, here ∙ ap Some (sym (among_one other name among)));
-  only = λ q other there. inl (q, there);
-}
-
 -- a name that gets the next number
 pub AddsNames-longer : (old new : List (List ℕ)) (name : List ℕ) → new ≡ old ++ name ∷ []
     → AddsNames (name ∷ []) old new
@@ -256,19 +247,6 @@ Extends-none old one_each = record {
   same = λ e of. of;
 }
 
--- a name that has a number already
-pub Extends-known : (old : Numbered) (name : List ℕ) (p : ℕ) → length old.names ≡ length old.system.requesters
-    → IsNumber old.names name p → Extends 1 (name ∷ []) old old
-Extends-known old name p one_each here = record {
-  names = AddsNames-known old.names name p here;
-  few = omega arith;
-  one_each = one_each;
-  distinct = λ h. h;
-  levels = refl;
-  rows = refl;
-  same = λ e of. of;
-}
-
 pub Extends-within : (n m : ℕ) (added others : List (List ℕ)) (old new : Numbered) → n ≤ m → added ≡ others
     → Extends n added old new → Extends m others old new
 Extends-within n m added others old new within same ext = record {
@@ -316,17 +294,6 @@ Extends-longer old new name one_each absent names system = record {
       (IsSystemOf-longer e old.names old.system of name absent));
 }
 
-pub AddsRequester-none : (old : Numbered) (name : List ℕ) → length old.names ≡ length old.system.requesters → (p : ℕ)
-    → IsNumber old.names name p → AddsRequester name old old
-AddsRequester-none old name one_each p here = record {
-  names = AddsNames-known old.names name p here;
-  few = omega arith;
-  one_each = one_each;
-  levels = refl;
-  rows = refl;
-  numbered = λ requesters is are. are;
-}
-
 pub AddsRequester-longer : (old new : Numbered) (name : List ℕ) → length old.names ≡ length old.system.requesters
     → IsAbsent old.names name → new.names ≡ old.names ++ name ∷ []
     → new.system ≡ record old.system { requesters = old.system.requesters ++ true ∷ [] } → AddsRequester name old new
@@ -371,7 +338,3 @@ known_on_ok (Err e) P p = tt
 pub map_on_ok : {T E : Type 0} (r : Result T E) (P Q : Type 0) → (P → Q) → OnOk r P → OnOk r Q
 map_on_ok (Ok x) P Q f p = f p
 map_on_ok (Err e) P Q f p = tt
-
-pub map_if_ok : {T E : Type 0} (r : Result T E) (P Q : T → Type 0) → ((x : T) → P x → Q x) → IfOk r P → IfOk r Q
-map_if_ok (Ok x) P Q f p = f x p
-map_if_ok (Err e) P Q f p = tt

@@ -18,10 +18,6 @@ Continues s v levels counts buckets steps levels_now counts_now buckets_now step
     → (after : List Bool) × IsUsed s after levels_now start steps_now
     × IsCounting s v levels_now after counts_now buckets_now
 
-pub continues-here : (s : SystemEquations) (v : ℕ) (levels counts : List ℕ) (buckets : List (List ℕ)) (steps : ℕ)
-    → Continues s v levels counts buckets steps levels counts buckets steps
-continues-here s v levels counts buckets steps = λ start marks counting used. (marks, used, counting)
-
 pub unsettled-le : (levels : List ℕ) → unsettled levels ≤ length levels
 unsettled-le [] = omega arith
 unsettled-le (zero ∷ levels) = let rest = unsettled-le levels in omega arith

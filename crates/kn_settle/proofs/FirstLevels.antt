@@ -1,11 +1,11 @@
 -- The requesters have the top level, and nobody else has one.
 use Rattle.std.proofs.Common.{◌≡◌, ◌≢◌, ℕ, ◌+◌, ◌-◌, ◌<◌, ◌≤◌, Bool, true, false, cond, eqb, List, [], ◌∷◌, ◌++◌}
-use Rattle.std.proofs.Common.{length, take, replicate, get_or, slice_index, slice_index_or, slice_set, refl, sym, ap}
+use Rattle.std.proofs.Common.{length, take, get_or, slice_index, slice_index_or, slice_set, refl, sym, ap}
 use Rattle.std.proofs.Common.{◌∙◌, subst, inl, inr, arith}
 use Rattle.std.proofs.lemmas.Bool.{cases_eq}
 use Rattle.std.proofs.lemmas.Bool.Decides.{nat_tests}
-use Rattle.std.proofs.lemmas.List.{ext_get_or, get_or-map, get_or-replicate, get_or-set_same, get_or-set_other}
-use Rattle.std.proofs.lemmas.List.{length-replicate, length-set, take_all, take_more}
+use Rattle.std.proofs.lemmas.List.{ext_get_or, get_or-map, get_or-set_same, get_or-set_other}
+use Rattle.std.proofs.lemmas.List.{length-set, take_all, take_more}
 use Rattle.kn_system.specs.Equations.{SystemEquations}
 use Rattle.kn_system.specs.Least.{at_first}
 use Rattle.kn_system.proofs.ProofsDetermine.{size-at_first}
@@ -25,13 +25,6 @@ among-last (x ∷ xs) p q e = let rest : is_among p (xs ++ q ∷ []) ≡ true = 
 pub among-before : (xs : List ℕ) (p q : ℕ) → p ≢ q → is_among p (xs ++ q ∷ []) ≡ is_among p xs
 among-before [] p q e = let other : eqb q p ≡ false = grind (arith, nat_tests) in ap (λ b. cond b true false) other
 among-before (x ∷ xs) p q e = ap (λ c. cond (eqb x p) true c) (among-before xs p q e)
-
-pub begun-none : (s : SystemEquations) (levels requesters : List ℕ) → levels ≡ replicate (length s.requesters) 0
-    → AreBegun s levels (take 0 requesters)
-begun-none s levels requesters e = record {
-  size = ap length e ∙ length-replicate (length s.requesters) 0;
-  level = λ p l. ap (λ ls. slice_index ls p) e ∙ get_or-replicate (length s.requesters) p 0 0 l;
-}
 
 pub begun-set : (s : SystemEquations) (levels next requesters : List ℕ) (q : ℕ) → q < length s.requesters
     → next ≡ slice_set levels q (s.levels - 1) → AreBegun s levels requesters → AreBegun s next (requesters ++ q ∷ [])

@@ -1,11 +1,11 @@
 -- The list of a system's requesters, made of its flags; and a system with its own requesters and ceilings is itself.
-use Rattle.std.proofs.Common.{◌≡◌, ◌≢◌, ℕ, suc, ◌+◌, ◌<◌, ◌≤◌, Bool, true, false, cond, nat_lt, List, [], ◌∷◌, ◌++◌}
+use Rattle.std.proofs.Common.{◌≡◌, ◌≢◌, ℕ, suc, ◌+◌, ◌<◌, ◌≤◌, true, false, cond, nat_lt, List, [], ◌∷◌, ◌++◌}
 use Rattle.std.proofs.Common.{All, length, map, slice_index, slice_index_or, refl, sym, ap, ◌∙◌, subst, inl, inr, arith}
 use Rattle.std.proofs.lemmas.Bool.{cases_eq, cases_lt}
 use Rattle.std.proofs.lemmas.Bool.Decides.{nat_tests}
-use Rattle.std.proofs.lemmas.List.{ext_get_or, get_or_default, get_or-map}
+use Rattle.std.proofs.lemmas.List.{ext_get_or, get_or-map}
 use Rattle.std.proofs.lemmas.List.Elements.{All-nil, All-cons, All-head, All-tail, All-push}
-use Rattle.kn_system.specs.Equations.{SystemEquations, IsSystem, IsSystemRow, row_at}
+use Rattle.kn_system.specs.Equations.{SystemEquations, IsSystemRow, row_at}
 use Rattle.kn_system.specs.Rows.{SystemRow}
 use Rattle.kn_settle.specs.QuerySystem.{query_system, capped_from, flags_from, is_among, IsOther}
 use Rattle.kn_settle.proofs.QuerySystems.{flag-at, length-flags}
@@ -16,27 +16,6 @@ pub record AreRequestersBelow (s : SystemEquations) (n : ℕ) (numbers : List �
   pub others : All (IsOther (length s.requesters)) numbers
   pub flag : (p : ℕ) → p < length s.requesters
       → is_among p numbers ≡ cond (nat_lt p n) (slice_index_or s.requesters p false) false
-
-pub requesters-none : (s : SystemEquations) → IsSystem s → AreRequestersBelow s 1 []
-requesters-none s is = record {
-  others = All-nil (IsOther (length s.requesters));
-  flag = λ p l.
-      elim (cases_eq p 0) [
-        | inl first ↦
-            let some : 0 < length s.requesters = omega (arith, is.principals_fit.0) in
-            let same : slice_index_or s.requesters 0 true ≡ slice_index_or s.requesters 0 false =
-            get_or_default s.requesters 0 true false some in
-            let none : slice_index_or s.requesters p false ≡ false = ap (λ q. slice_index_or s.requesters q false) first
-            ∙ sym same ∙ is.policy in
-            sym (ap (λ b. cond (nat_lt p 1) b false) none ∙ either (nat_lt p 1))
-        | inr later ↦ let past : nat_lt p 1 ≡ false = grind (arith, nat_tests) in
-            sym (ap (λ b. cond b (slice_index_or s.requesters p false) false) past)
-      ];
-}
-  where
-    either : (b : Bool) → cond b false false ≡ false
-    either true = refl
-    either false = refl
 
 -- whether another principal is among the first doesn't change
 later : (p n : ℕ) → p ≢ n → nat_lt p n ≡ nat_lt p (n + 1)

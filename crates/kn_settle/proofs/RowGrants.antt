@@ -1,23 +1,10 @@
 -- What a row that was read says of settling.
-use Rattle.std.proofs.Common.{◌≡◌, ◌<◌, ◌≤◌, ◌-◌, ◌++◌, [], ◌∷◌, ℕ, List, length, min, slice_index, slice_set, sym, ap}
-use Rattle.std.proofs.Common.{◌∙◌, subst, arith}
+use Rattle.std.proofs.Common.{◌≡◌, ◌<◌, ◌++◌, [], ◌∷◌, ℕ, List, slice_set, sym, ap}
+use Rattle.std.proofs.Common.{◌∙◌, subst}
 use Rattle.kn_proof.specs.declared.row.Row.{Row as ProofRow}
 use Rattle.kn_system.specs.Equations.{SystemEquations, row_at}
-use Rattle.kn_system.specs.Form.{form_level}
 use Rattle.kn_system.specs.Lawful.{IsGranted}
-use Rattle.kn_system.specs.Settled.{IsSettled, IsGrant, unsettled}
-
--- a row that was read gives its authorizer the level
-pub grant_read : (s : SystemEquations) (v p by ceiling form found : ℕ) (levels : List ℕ) → by < length s.rows
-    → p ≡ (row_at s.rows by).authorizer → slice_index levels p ≤ 0
-    → ceiling ≡ (row_at s.rows by).ceiling → form ≡ form_level (s.levels - 1) levels (row_at s.rows by).formula
-    → found ≡ min ceiling form → v ≤ found → IsGrant s v levels by
-grant_read s v p by ceiling form found levels l own none c f m enough = record {
-  named = l;
-  fresh = let same : slice_index levels p ≡ slice_index levels (row_at s.rows by).authorizer =
-      ap (slice_index levels) own in omega arith;
-  supported = omega arith;
-}
+use Rattle.kn_system.specs.Settled.{IsSettled, unsettled}
 
 -- the levels and the rows after it are settled
 pub settled_read : (s : SystemEquations) (v p by : ℕ) (levels : List ℕ) (rows after : List ProofRow)

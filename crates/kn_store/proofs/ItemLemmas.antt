@@ -42,15 +42,6 @@ pub record AreMadeUpTo (past : List Numbered) (items : List Item) (place : ℕ) 
   pub refusal : refusal_of_items past items ≡ refused_from (place + 1) (past ++ changes) left
   pub reads : list_all item_reads items ≡ list_all item_reads left
 
-pub none_made : (past : List Numbered) (items : List Item) (live : LiveView) → live ≡ live_view past
-    → AreMadeUpTo past items 0 live [] items
-none_made past items live is = record {
-  view = is ∙ ap live_view (sym (append-nil past));
-  numbers = ap (λ l. all_numbered l items) (sym (append-nil past));
-  refusal = ap (λ l. refused_from 1 l items) (sym (append-nil past));
-  reads = refl;
-}
-
 module _ (past : List Numbered) (items : List Item) (place : ℕ) (live : LiveView) (changes : List Numbered)
     (left : List Item) (item : Item) (rest : List Item)
     (so_far : AreMadeUpTo past items place live changes left) (taken : left ≡ item ∷ rest) where

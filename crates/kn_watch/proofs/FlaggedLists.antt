@@ -4,7 +4,7 @@ use Rattle.std.proofs.Common.{length, get_or, replicate, slice_get, slice_set, r
 use Rattle.std.proofs.Common.{append-nil, arith}
 use Rattle.std.proofs.lemmas.Option.{slice_get-get_or}
 use Rattle.std.proofs.lemmas.Bool.{cases_lt, cases_eq, false≢true}
-use Rattle.std.proofs.lemmas.List.{append_assoc, get_or-set_same, get_or-set_other, get_or_past, set-get_or}
+use Rattle.std.proofs.lemmas.List.{append_assoc, get_or-set_same, get_or-set_other, get_or_past}
 use Rattle.kn_watch.specs.Affected.{IsSubset, is_affected, sum_over}
 use Rattle.kn_watch.specs.Found.{AreFound, sum_of}
 use mathlib.Core.List.{IsPrefix}
@@ -70,10 +70,6 @@ among-set flags others p is h = λ q e.
       | inl same ↦ ap (is_affected others) same ∙ is
       | inr differs ↦ h q (sym (get_or-set_other flags p q true false differs) ∙ e)
     ]
-
--- who is flagged already is no more
-pub flag-again : (flags : List Bool) (p : ℕ) → is_affected flags p ≡ true → flags ≡ slice_set flags p true
-flag-again flags p e = sym (ap (slice_set flags p) (sym e) ∙ set-get_or flags p false)
 
 -- one more is flagged and listed
 pub found-next : (flags : List Bool) (found : List ℕ) (p : ℕ) → p < length flags → is_affected flags p ≡ false

@@ -186,9 +186,6 @@ padded [] (suc n) (suc p) = padded [] n p
 padded (x ∷ xs) n zero = refl
 padded (x ∷ xs) n (suc p) = padded xs n p
 
-cond-first : (b : Bool) (x : ℕ) → (c : Bool) → c ≡ true → cond c (cond b x 0) 0 ≡ cond b x 0
-cond-first b x c e = ap (λ d. cond d (cond b x 0) 0) e
-
 -- what a start is
 record IsMade (s : SystemEquations) (affected : List Bool) (old start : List ℕ) : Type 0 where
   others : (p : ℕ) → is_affected affected p ≡ false → slice_index start p ≡ slice_index old p

@@ -39,12 +39,6 @@ items_some block items read =
     let size = length-map items item_of in
     omega arith
 
-pub items_few : (block : List ℕ) (items : List BatchItem) → items_of block ≡ Ok (map item_of items) → length items ≤ 256
-items_few block items read =
-    let few = (read-are_items block (map item_of items) read).0.few in
-    let size = length-map items item_of in
-    omega arith
-
 -- one more item is read
 pub begins_with_item : (block : List ℕ) (items new : List BatchItem) (item : BatchItem) (text left : List ℕ) (count : ℕ)
     → BeginsWith block (map item_of items) text → count ≡ length items → count + 1 ≤ 256

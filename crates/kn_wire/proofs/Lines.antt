@@ -2,17 +2,10 @@
 use Rattle.std.proofs.Common.{◌≡◌, ℕ, ◌+◌, ◌≤◌, ◌<◌, true, false, cond, suc, List, [], ◌∷◌, ◌++◌, length, take, drop}
 use Rattle.std.proofs.Common.{refl, ap, ◌∙◌, ⊎_elim, arith, length-append}
 use Rattle.std.specs.Prelude.{nat_lt}
-use Rattle.std.specs.List.{before_first, after_first, list_any}
-use Rattle.std.proofs.lemmas.Bool.{cases_Bool, or_parts, cond-true, cond-false, le-ltb, lt-ltb}
+use Rattle.std.specs.List.{before_first, after_first}
+use Rattle.std.proofs.lemmas.Bool.{cases_Bool, cond-true, cond-false, le-ltb, lt-ltb}
 use Rattle.std.proofs.Math.Seq.{take-append_seam, drop-append-add}
 use Rattle.kn_wire.specs.Requests.{is_newline, is_return, line_length, without_return, first_of, first_of_line, line_of}
-
--- a line without a carriage return
-pub without_return-none : (xs : List ℕ) → list_any is_return xs ≡ false → without_return xs ≡ xs
-without_return-none [] h = refl
-without_return-none (b ∷ []) h = rw (or_parts (is_return b) false h).0 refl
-without_return-none (b ∷ c ∷ bs) h =
-    ap (λ (l : List ℕ). b ∷ l) (without_return-none (c ∷ bs) (or_parts (is_return b) (list_any is_return (c ∷ bs)) h).1)
 
 -- a byte at the end of a line, if it is a carriage return or not
 pub without_return-last : (xs : List ℕ) (b : ℕ) → without_return (xs ++ b ∷ []) ≡ xs ++ cond (is_return b) [] (b ∷ [])

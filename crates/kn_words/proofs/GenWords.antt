@@ -1,8 +1,7 @@
 -- The words of `gen`.
-use Rattle.std.proofs.Common.{◌≡◌, ◌<◌, ℕ, ◌⊎◌, Bool, false, List, [], ◌∷◌, length, get_or, sym}
-use Rattle.std.proofs.Common.{ap, ◌∙◌, ⊎_elim, arith, Option, Some, None, subst}
+use Rattle.std.proofs.Common.{◌≡◌, ℕ, Bool, false, List, [], ◌∷◌, length, get_or, sym}
+use Rattle.std.proofs.Common.{ap, ◌∙◌, arith, Option, Some, None, subst}
 use Rattle.std.specs.Prelude.{not, codes, IfSome, IfNone}
-use Rattle.kn_base.specs.declared.limits.TheConstants.{GENERATED_CREDENTIALS}
 use Rattle.kn_base.specs.Decimal.{decimal_of}
 use Rattle.std.specs.Str.{bytes_eq}
 use Rattle.kn_words.specs.declared.gen_words.GenNumbers.{GenNumbers}
@@ -48,19 +47,5 @@ gen_none words first second None spelled none = λ numbers gen.
     (subst (λ (y : List ℕ). AreGenNumbers gen.first y numbers) b gen.are))
 gen_none words first second (Some n) spelled none = tt
 
--- words that are no numbers within their limits
-pub no_start : (first second : List ℕ) → None ≡ decimal_of first → AreNoGenNumbers first second
-no_start first second none numbers are = let both : None ≡ Some numbers.start = none ∙ are.start in absurd (cc)
-
 pub no_count : (first second : List ℕ) → None ≡ decimal_of second → AreNoGenNumbers first second
 no_count first second none numbers are = let both : None ≡ Some numbers.count = none ∙ are.count in absurd (cc)
-
-pub not_in_range : (first second : List ℕ) (count : ℕ) → Some count ≡ decimal_of second
-    → (count < 1) ⊎ (GENERATED_CREDENTIALS < count) → AreNoGenNumbers first second
-not_in_range first second count is out numbers are =
-    let both : Some count ≡ Some numbers.count = is ∙ are.count in
-    let same : count ≡ numbers.count = cc in
-    let some = are.some in
-    let most = are.most in
-    ⊎_elim (λ (low : count < 1). absurd (omega arith))
-    (λ (high : GENERATED_CREDENTIALS < count). absurd (omega arith)) out

@@ -1,4 +1,4 @@
-use Rattle.std.proofs.Common.{◌≡◌, ◌+◌, ◌*◌, true, List, map, drop}
+use Rattle.std.proofs.Common.{◌≡◌, ◌+◌, ◌*◌, true, map, drop}
 use Rattle.std.specs.List.{list_any}
 use Rattle.kn_trees.specs.Formulas.{greatest_of}
 use Rattle.kn_trees.specs.Depths.{expr_depth}
