@@ -1,7 +1,8 @@
 -- Who is an administrator, and what is added.
 use Rattle.std.proofs.Common.{◌≡◌, ◌≢◌, ℕ, ◌+◌, Bool, true, false, cond, ◌&&◌, not, ◌==◌, List, [], ◌∷◌, length}
 use Rattle.std.proofs.Common.{Option, Some, None, refl, sym, ap, ◌∙◌, eqb-true}
-use Rattle.std.specs.Prelude.{nat_lt}
+use Rattle.std.specs.Prelude.{nat_lt, option_map}
+use Rattle.std.specs.Option.{option_or}
 use Rattle.std.specs.List.{AllByRecursion}
 use Rattle.std.specs.Str.{bytes_eq}
 use Rattle.std.proofs.lemmas.Slice.Eq.{bytes_eq-Decides}
@@ -16,12 +17,12 @@ use Rattle.kn_reply.specs.declared.refusal.Refusal.{Refusal}
 use Rattle.kn_reply.specs.declared.refusal.Refusal.TheVariants as R
 use Rattle.kn_reply.specs.declared.refusal.ItemRefusal.{ItemRefusal}
 use Rattle.kn_reply.specs.Replies.{Reply, No, NoMemory}
-use Rattle.kn_daemon.specs.Shapes.{AddText, ApplyBlock, Look, ForOpen, ForPin, ForPinAt, ForNews, ForLog}
+use Rattle.kn_daemon.specs.Shapes.{AddText, DropId, ApplyBlock, Look, ForOpen, ForPin, ForPinAt, ForNews, ForLog}
 use Rattle.kn_daemon.specs.Shapes.{Question, WithProof, WithCritical, ToKeep, ShowSecret, Leave, Shape, Calls, Updates}
 use Rattle.kn_daemon.specs.Shapes.{Looks, Asks, Controls, AtFault}
 use Rattle.kn_daemon.specs.Daemon.{DaemonConfig, State, refuse_if, is_secret, refusal_at_reading, refusal_at_verdict}
-use Rattle.kn_daemon.specs.Daemon.{item_refusal, found_item, refusal_from, refusal_of_block, refusal_of_update}
-use Rattle.kn_daemon.specs.Daemon.{pinned_to, state_after_look, state_keeping, state_after_question, Does}
+use Rattle.kn_daemon.specs.Daemon.{item_refusal, refusal_from, refusal_of_block}
+use Rattle.kn_daemon.specs.Daemon.{pinned_to, state_keeping, state_after, Does}
 use Rattle.kn_daemon.specs.PermissionLaws.{OthersAreRefused, SecretMakesAdmin, AdminStays, AddedIsAdmitted}
 use Rattle.kn_daemon.specs.PermissionLaws.{BatchIsAdmitted}
 use Rattle.kn_daemon.proofs.Reading.{by_assertion}
@@ -30,15 +31,22 @@ both : true ≡ false → ⊥
 both e = cc e
 
 pub others-refused : OthersAreRefused
-others-refused g state update n none = (
-  ap (λ b. refuse_if (not b) R.Admin (refusal_of_update g update)) none,
+others-refused g state (AddText text) n none = (
+  ap (λ b. refuse_if (not b) R.Admin
+      (refusal_at_reading R.Read (reading_of text) (λ a. refusal_at_verdict R.Auth (g.verdict text a)))) none,
+  ap (λ b. refuse_if (not b) R.Admin None) none,
+)
+others-refused g state (DropId k) n none =
+    (ap (λ b. refuse_if (not b) R.Admin None) none, ap (λ b. refuse_if (not b) R.Admin None) none)
+others-refused g state (ApplyBlock block) n none = (
+  ap (λ b. refuse_if (not b) R.Admin (refusal_of_block g (items_of block))) none,
   ap (λ b. refuse_if (not b) R.Admin None) none,
 )
 
 -- What leaves an administrator as it was.
 
 looked-admin : (past : List Update) (state : State) (look : Look)
-    → (state_after_look past state look).is_admin ≡ state.is_admin
+    → (state_after past state (Looks look)).is_admin ≡ state.is_admin
 looked-admin past state ForOpen = refl
 looked-admin past state (ForPin s) = refl
 looked-admin past state (ForPinAt s version) = by (retained_version past version)
@@ -49,11 +57,11 @@ looked-admin past state (ForPinAt s version) = by (retained_version past version
 looked-admin past state (ForNews s) = refl
 looked-admin past state (ForLog n) = refl
 
-questioned-admin : (state : State) (question : Question) (s : ℕ) (names : List ℕ)
-    → (state_after_question state question s names).is_admin ≡ state.is_admin
-questioned-admin state WithProof s names = refl
-questioned-admin state WithCritical s names = refl
-questioned-admin state ToKeep s names = by (values_of names)
+questioned-admin : (past : List Update) (state : State) (question : Question) (s : ℕ) (names : List ℕ)
+    → (state_after past state (Asks question s names)).is_admin ≡ state.is_admin
+questioned-admin past state WithProof s names = refl
+questioned-admin past state WithCritical s names = refl
+questioned-admin past state ToKeep s names = by (values_of names)
   where
     by : (o : Option (List (List ℕ))) → (state_keeping state s o).is_admin ≡ state.is_admin
     by None = refl
@@ -84,7 +92,7 @@ module _ (g : DaemonConfig) (caller : ℕ) (past : List Update) (old : State) wh
   shows (Looks look) reply new d before after =
       absurd (both (sym after ∙ ap (λ x. x.is_admin) d.next ∙ looked-admin past old look ∙ before))
   shows (Asks question s names) reply new d before after =
-      absurd (both (sym after ∙ ap (λ x. x.is_admin) d.next ∙ questioned-admin old question s names ∙ before))
+      absurd (both (sym after ∙ ap (λ x. x.is_admin) d.next ∙ questioned-admin past old question s names ∙ before))
   shows (Controls (ShowSecret bytes)) reply new d before after = shown g.secret bytes d.accepted
   shows (Controls Leave) reply new d before after =
       absurd (both (sym after ∙ ap (λ x. x.is_admin) d.next ∙ before))
@@ -96,7 +104,7 @@ module _ (g : DaemonConfig) (caller : ℕ) (past : List Update) (old : State) wh
   stays (Updates update) reply new d before = ap (λ x. x.is_admin) d.next ∙ before
   stays (Looks look) reply new d before = ap (λ x. x.is_admin) d.next ∙ looked-admin past old look ∙ before
   stays (Asks question s names) reply new d before =
-      ap (λ x. x.is_admin) d.next ∙ questioned-admin old question s names ∙ before
+      ap (λ x. x.is_admin) d.next ∙ questioned-admin past old question s names ∙ before
   stays (Controls (ShowSecret bytes)) reply new d before = ap (λ x. x.is_admin) d.next
   stays (Controls Leave) reply new d before = ap (λ x. x.is_admin) d.next ∙ before
   stays (AtFault fault) reply new d before = ap (λ x. x.is_admin) d.next ∙ before
@@ -132,7 +140,7 @@ pub added-admitted : AddedIsAdmitted
 added-admitted g caller past old text k version new assertion p reads =
     let admits : Assertion → Option Refusal = λ a. refusal_at_verdict R.Auth (g.verdict text a) in
     let none : refusal_at_reading R.Read (reading_of text) admits ≡ None =
-    behind-admin (not old.is_admin) (refusal_of_update g (AddText text)) p.accepted in
+    behind-admin (not old.is_admin) (refusal_at_reading R.Read (reading_of text) admits) p.accepted in
     no-fault (g.verdict text assertion)
     (sym (ap (λ r. refusal_at_reading R.Read r admits) (by_assertion (reading_of text) assertion reads)) ∙ none)
 
@@ -143,7 +151,7 @@ each-admitted g n (item ∷ items) e = by (item_refusal g item) refl (each-admit
   where
     by : (o : Option ItemRefusal) → item_refusal g item ≡ o
         → (refusal_from g (n + 1) items ≡ None → AllByRecursion (λ one. item_refusal g one ≡ None) items)
-        → found_item n o (refusal_from g (n + 1) items) ≡ None
+        → option_or (option_map (R.Item n) o) (refusal_from g (n + 1) items) ≡ None
         → (item_refusal g item ≡ None) × AllByRecursion (λ one. item_refusal g one ≡ None) items
     by None is rest e = (is, rest e)
     by (Some inner) is rest e = absurd (cc e)
@@ -151,6 +159,6 @@ each-admitted g n (item ∷ items) e = by (item_refusal g item) refl (each-admit
 pub batch-admitted : BatchIsAdmitted
 batch-admitted g caller past old block first added version new items p read =
     let none : refusal_of_block g (items_of block) ≡ None =
-    behind-admin (not old.is_admin) (refusal_of_update g (ApplyBlock block)) p.accepted in
+    behind-admin (not old.is_admin) (refusal_of_block g (items_of block)) p.accepted in
     All-from_recursion (λ item. item_refusal g item ≡ None) items
     (each-admitted g 1 items (sym (ap (refusal_of_block g) read) ∙ none))

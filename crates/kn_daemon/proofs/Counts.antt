@@ -11,15 +11,14 @@ use Rattle.kn_reply.specs.declared.refusal.Refusal.{Refusal}
 use Rattle.kn_wire.specs.Requests.{Request}
 use Rattle.kn_reply.specs.Replies.{Reply, No, NoMemory}
 use Rattle.kn_daemon.specs.Daemon.{DaemonConfig, State, first_state, with_session, own_refusal, pinned_to}
-use Rattle.kn_daemon.specs.Daemon.{state_after_look, state_keeping}
-use Rattle.kn_daemon.specs.Daemon.{state_after_question, state_after_control, state_after, Does, Permits}
+use Rattle.kn_daemon.specs.Daemon.{state_keeping, state_after, Does, Permits}
 use Rattle.kn_daemon.specs.Played.{after_request, played}
 use Rattle.kn_session.specs.Sessions.{Session, started_session}
 use Rattle.kn_session.specs.Calls.{Call, add_requester, is_named, after_call}
 use Rattle.kn_session.specs.Calls as C
 use Rattle.kn_daemon.specs.Shapes.{Look, ForOpen, ForPin, ForPinAt, ForNews, ForLog, Question, WithProof}
-use Rattle.kn_daemon.specs.Shapes.{WithCritical, ToKeep, Control, ShowSecret, Leave, Shape, Calls, Looks, Asks}
-use Rattle.kn_daemon.specs.Shapes.{Controls, shape_of}
+use Rattle.kn_daemon.specs.Shapes.{WithCritical, ToKeep, Control, ShowSecret, Leave, Shape, Calls, Updates, Looks}
+use Rattle.kn_daemon.specs.Shapes.{Asks, Controls, AtFault, shape_of}
 use Rattle.kn_daemon.specs.Linearized.{Exchange, Along}
 use Rattle.kn_wire.specs.Feeding.{Held}
 use Rattle.kn_daemon.specs.Underway.{IsUnderway, IsSmall}
@@ -79,7 +78,7 @@ made-called n s (C.Auth text) xs h = made-map (λ x. x.number == s) _ n (request
 made-called n s call xs h = made-map (λ x. x.number == s) _ n (λ x. omega arith) xs h
 
 few-looked : (n : ℕ) (past : List Update) (state : State) (look : Look) → AreFew n state
-    → AreFew (n + 1) (state_after_look past state look)
+    → AreFew (n + 1) (state_after past state (Looks look))
 few-looked n past state ForOpen few =
     let s = few.started in
     record {
@@ -89,36 +88,37 @@ few-looked n past state ForOpen few =
 few-looked n past state (ForPin s) few = few-with n state s _ (λ x. omega arith) few
 few-looked n past state (ForPinAt s version) few = by (retained_version past version)
   where
-    by : (state_keeping : Option (List Update)) → AreFew (n + 1) (pinned_to state s state_keeping)
+    by : (kept : Option (List Update)) → AreFew (n + 1) (pinned_to state s kept)
     by None = few-more n state few
-    by (Some state_keeping) = few-with n state s _ (λ x. omega arith) few
+    by (Some kept) = few-with n state s _ (λ x. omega arith) few
 few-looked n past state (ForNews s) few = few-with n state s _ (λ x. omega arith) few
 few-looked n past state (ForLog count) few = few-more n state few
 
-few-questioned : (n : ℕ) (state : State) (question : Question) (s : ℕ) (names : List ℕ) → AreFew n state
-    → AreFew (n + 1) (state_after_question state question s names)
-few-questioned n state WithProof s names few = few-more n state few
-few-questioned n state WithCritical s names few = few-more n state few
-few-questioned n state ToKeep s names few = by (values_of names)
+few-questioned : (n : ℕ) (past : List Update) (state : State) (question : Question) (s : ℕ) (names : List ℕ)
+    → AreFew n state → AreFew (n + 1) (state_after past state (Asks question s names))
+few-questioned n past state WithProof s names few = few-more n state few
+few-questioned n past state WithCritical s names few = few-more n state few
+few-questioned n past state ToKeep s names few = by (values_of names)
   where
     by : (values : Option (List (List ℕ))) → AreFew (n + 1) (state_keeping state s values)
     by None = few-more n state few
     by (Some values) = few-with n state s _ (λ x. omega arith) few
 
-few-controlled : (n : ℕ) (state : State) (control : Control) → AreFew n state
-    → AreFew (n + 1) (state_after_control state control)
-few-controlled n state (ShowSecret bytes) few =
+few-controlled : (n : ℕ) (past : List Update) (state : State) (control : Control) → AreFew n state
+    → AreFew (n + 1) (state_after past state (Controls control))
+few-controlled n past state (ShowSecret bytes) few =
     let s = few.started in record { started = omega (arith, s); made = made-more n state.sessions few.made }
-few-controlled n state Leave few = few-more n state few
+few-controlled n past state Leave few = few-more n state few
 
 few-changed : (n : ℕ) (past : List Update) (state : State) (shape : Shape) → AreFew n state
     → AreFew (n + 1) (state_after past state shape)
 few-changed n past state (Calls s call) few =
     let l = few.started in record { started = omega (arith, l); made = made-called n s call state.sessions few.made }
 few-changed n past state (Looks look) few = few-looked n past state look few
-few-changed n past state (Asks question s names) few = few-questioned n state question s names few
-few-changed n past state (Controls control) few = few-controlled n state control few
-few-changed n past state shape few = few-more n state few
+few-changed n past state (Asks question s names) few = few-questioned n past state question s names few
+few-changed n past state (Controls control) few = few-controlled n past state control few
+few-changed n past state (Updates update) few = few-more n state few
+few-changed n past state (AtFault fault) few = few-more n state few
 
 few-does : (n : ℕ) (g : DaemonConfig) (caller : ℕ) (past : List Update) (old : State) (shape : Shape) (reply : Reply)
     (new : State) → AreFew n old → Does g caller past old shape reply new → AreFew (n + 1) new

@@ -5,44 +5,56 @@ use Rattle.kn_history.specs.declared.update.Update.{Update}
 use Rattle.kn_reply.specs.declared.refusal.Refusal.{Refusal}
 use Rattle.kn_reply.specs.Replies.{Reply, No, NoMemory}
 use Rattle.kn_daemon.specs.Shapes.{Updating, AddText, DropId, ApplyBlock, Look, ForOpen, ForPin, ForPinAt}
-use Rattle.kn_daemon.specs.Shapes.{ForNews, ForLog, Shape, Calls, Updates, Looks, Asks, Controls, AtFault}
-use Rattle.kn_daemon.specs.Daemon.{DaemonConfig, State, own_refusal, placed_refusal, first_refusal, IsUpdated, IsLooked}
-use Rattle.kn_daemon.specs.Daemon.{Does}
-use Rattle.kn_daemon.specs.Daemon.{Permits}
+use Rattle.kn_daemon.specs.Shapes.{ForNews, ForLog, Question, WithProof, WithCritical, ToKeep, ShowSecret, Leave}
+use Rattle.kn_daemon.specs.Shapes.{Shape, Calls, Updates, Looks, Asks, Controls, AtFault}
+use Rattle.kn_daemon.specs.Daemon.{DaemonConfig, State, own_refusal, placed_refusal, first_refusal, Answers}
+use Rattle.kn_daemon.specs.Daemon.{Does, Permits}
 use Rattle.kn_daemon.specs.Linearized.{is_placed}
 use Rattle.kn_daemon.specs.Laws.{FewerTakesNoMemory}
 use Rattle.kn_daemon.proofs.Refusals.{history-placed}
+use Rattle.kn_daemon.proofs.Answered.{news-answered, batch-answered}
 
 both : true ≡ false → ⊥
 both e = cc e
 
 -- an accepted update's reply depends on its place
-updated-placed : (caller : ℕ) (past : List Update) (update : Updating) (reply : Reply)
-    → IsUpdated caller past update reply
-    → is_placed (Updates update) reply ≡ true
-updated-placed caller past (AddText text) reply a = ap (is_placed (Updates (AddText text))) a.2
-updated-placed caller past (DropId k) reply a = ap (is_placed (Updates (DropId k))) a.1
-updated-placed caller past (ApplyBlock block) reply a = ap (is_placed (Updates (ApplyBlock block))) a.2.exact
+updated-placed : (caller : ℕ) (past : List Update) (old : State) (update : Updating) (reply : Reply)
+    → Answers caller past old (Updates update) reply → is_placed (Updates update) reply ≡ true
+updated-placed caller past old (AddText text) reply a = ap (is_placed (Updates (AddText text))) a.2
+updated-placed caller past old (DropId k) reply a = ap (is_placed (Updates (DropId k))) a.1
+updated-placed caller past old (ApplyBlock block) reply a =
+    ap (is_placed (Updates (ApplyBlock block))) (batch-answered caller past old block reply a).batch.exact
 
 -- and so does that of an accepted look
-looked-placed : (past : List Update) (old : State) (look : Look) (reply : Reply) → IsLooked past old look reply
-    → is_placed (Looks look) reply ≡ true
-looked-placed past old ForOpen reply a = ap (is_placed (Looks ForOpen)) a
-looked-placed past old (ForPin s) reply a = ap (is_placed (Looks (ForPin s))) a
-looked-placed past old (ForPinAt s version) reply a = ap (is_placed (Looks (ForPinAt s version))) a.1
-looked-placed past old (ForNews s) reply a = ap (is_placed (Looks (ForNews s))) a.news.exact
-looked-placed past old (ForLog n) reply a = ap (is_placed (Looks (ForLog n))) a.1
+looked-placed : (caller : ℕ) (past : List Update) (old : State) (look : Look) (reply : Reply)
+    → Answers caller past old (Looks look) reply → is_placed (Looks look) reply ≡ true
+looked-placed caller past old ForOpen reply a = ap (is_placed (Looks ForOpen)) a
+looked-placed caller past old (ForPin s) reply a = ap (is_placed (Looks (ForPin s))) a
+looked-placed caller past old (ForPinAt s version) reply a = ap (is_placed (Looks (ForPinAt s version))) a.1
+looked-placed caller past old (ForNews s) reply a =
+    ap (is_placed (Looks (ForNews s))) (news-answered caller past old s reply a).news.exact
+looked-placed caller past old (ForLog n) reply a = ap (is_placed (Looks (ForLog n))) a.1
 
 module _ (g : DaemonConfig) (caller : ℕ) (past other : List Update) (old : State) where
+  asked-free : (question : Question) (s : ℕ) (names : List ℕ) (reply : Reply) (new : State)
+      → Does g caller past old (Asks question s names) reply new
+      → Does g caller other old (Asks question s names) reply new
+  asked-free WithProof s names reply new d = record { accepted = d.accepted; answered = d.answered; next = d.next }
+  asked-free WithCritical s names reply new d = record { accepted = d.accepted; answered = d.answered; next = d.next }
+  asked-free ToKeep s names reply new d = record { accepted = d.accepted; answered = d.answered; next = d.next }
+
   done-free : (shape : Shape) (reply : Reply) (new : State) → is_placed shape reply ≡ false
       → Does g caller past old shape reply new → Does g caller other old shape reply new
   done-free (Calls s call) reply new free d = record { accepted = d.accepted; answered = d.answered; next = d.next }
   done-free (Updates update) reply new free d =
-      absurd (both (sym (updated-placed caller past update reply d.answered) ∙ free))
-  done-free (Looks look) reply new free d = absurd (both (sym (looked-placed past old look reply d.answered) ∙ free))
-  done-free (Asks question s names) reply new free d =
+      absurd (both (sym (updated-placed caller past old update reply d.answered) ∙ free))
+  done-free (Looks look) reply new free d =
+      absurd (both (sym (looked-placed caller past old look reply d.answered) ∙ free))
+  done-free (Asks question s names) reply new free d = asked-free question s names reply new d
+  done-free (Controls (ShowSecret bytes)) reply new free d =
       record { accepted = d.accepted; answered = d.answered; next = d.next }
-  done-free (Controls control) reply new free d = record { accepted = d.accepted; answered = d.answered; next = d.next }
+  done-free (Controls Leave) reply new free d =
+      record { accepted = d.accepted; answered = d.answered; next = d.next }
   done-free (AtFault fault) reply new free d = absurd d.answered
 
   refused-free : (shape : Shape) (refusal : Refusal) → is_placed shape (No refusal) ≡ false

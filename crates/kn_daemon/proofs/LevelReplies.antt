@@ -14,9 +14,8 @@ use Rattle.kn_session.specs.Sessions.{StandingQuery, Session, asker, query_with,
 use Rattle.kn_reply.specs.Replies.{Value, News, Critical}
 use Rattle.kn_daemon.specs.Shapes.{ForNews, WithProof, WithCritical, ToKeep, Looks, Asks}
 use Rattle.kn_daemon.specs.Daemon.{DaemonConfig, State, session_of, asked_of, session_parts, equations_of, IsAnswer}
-use Rattle.kn_daemon.specs.Daemon.{IsNews}
-use Rattle.kn_daemon.specs.Daemon.{IsCriticalAnswer}
-use Rattle.kn_daemon.specs.Daemon.{IsAnswered, Permits}
+use Rattle.kn_daemon.specs.Daemon.{IsNews, IsCriticalAnswer, Permits}
+use Rattle.kn_daemon.proofs.Answered.{IsAnswered, question-answered, news-answered}
 
 same_some : {X : Type 0} {x y : X} → Some x ≡ Some y → x ≡ y
 same_some e = cc e
@@ -109,8 +108,8 @@ module _ (g : DaemonConfig) (caller : ℕ) (past : List Update) (old new after :
       → Permits g caller past old (Asks ToKeep s names) (News level text number) after
       → (level ≡ index) × (text ≡ name) × (number ≡ version)
   watch-tells_value level text number p q =
-      let a = p.answered in
-      let b = q.answered in
+      let a = question-answered caller past old WithProof s names (Value index name version rows) p.answered in
+      let b = question-answered caller past old ToKeep s names (News level text number) q.answered in
       told-once (equations_of a.session a.values) a.values a.session.pinned index name version level text number
       (value-told a.session a.values index name version rows a.answer)
       (same-asked (λ x values. IsTold (equations_of x values) values x.pinned level text number) a b.session b.values
@@ -120,8 +119,8 @@ module _ (g : DaemonConfig) (caller : ℕ) (past : List Update) (old new after :
       → Permits g caller past old (Asks WithProof s names) (Value index name version rows) new
       → Permits g caller past old (Asks WithCritical s names) (Critical level ids) after → level ≡ index
   critical-tells_value level ids p q =
-      let a = p.answered in
-      let b = q.answered in
+      let a = question-answered caller past old WithProof s names (Value index name version rows) p.answered in
+      let b = question-answered caller past old WithCritical s names (Critical level ids) q.answered in
       let told : Critical level ids ≡ Critical b.answer.level b.answer.ids = b.answer.exact in
       let same : level ≡ b.answer.level = cc told in
       let value = value-told a.session a.values index name version rows a.answer in
@@ -137,8 +136,8 @@ module _ (g : DaemonConfig) (caller : ℕ) (past : List Update) (old new after :
       → Permits g caller past old (Looks (ForNews s)) (News level text number) after
       → (level ≡ index) × (text ≡ name) × (number ≡ version)
   news-tells_value session values level text number found named keeps p q =
-      let a = p.answered in
-      let b = q.answered in
+      let a = question-answered caller past old WithProof s names (Value index name version rows) p.answered in
+      let b = news-answered caller past old s (News level text number) q.answered in
       let same : session ≡ b.session = same_some (sym found ∙ b.found) in
       let moved : Some (query_at past b.query) ≡ Some (query_with values session) =
       sym (ap (option_map (query_at past)) (ap (λ (x : Session). x.standing) same ∙ b.standing))
@@ -156,8 +155,8 @@ module _ (g : DaemonConfig) (caller : ℕ) (past : List Update) (old new after :
       → Permits g caller past old (Asks WithCritical s names) (Critical index others) after
       → (level ≡ index) × (ids ≡ others)
   critical-one level index ids others p q =
-      let a = p.answered in
-      let b = q.answered in
+      let a = question-answered caller past old WithCritical s names (Critical level ids) p.answered in
+      let b = question-answered caller past old WithCritical s names (Critical index others) q.answered in
       let told : Critical level ids ≡ Critical a.answer.level a.answer.ids = a.answer.exact in
       let also : Critical index others ≡ Critical b.answer.level b.answer.ids = b.answer.exact in
       let level_is : level ≡ a.answer.level = cc told in

@@ -10,6 +10,7 @@ pub mod Updates
 pub mod Logs
 pub mod Refusals
 pub mod Faults
+pub mod Answered
 pub mod Standing
 pub mod LevelReplies
 pub mod FreeReplies

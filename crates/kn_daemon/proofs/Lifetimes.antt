@@ -21,8 +21,7 @@ use Rattle.kn_daemon.specs.Shapes.{WithCritical, ToKeep, ShowSecret, Leave, Shap
 use Rattle.kn_daemon.specs.Shapes.{Controls}
 use Rattle.kn_daemon.specs.Shapes.{AtFault}
 use Rattle.kn_daemon.specs.Daemon.{DaemonConfig, State, session_of, refuse_if, pinned_to}
-use Rattle.kn_daemon.specs.Daemon.{state_after_look, state_keeping}
-use Rattle.kn_daemon.specs.Daemon.{state_after_question, reply_of_call, Does, Permits}
+use Rattle.kn_daemon.specs.Daemon.{state_keeping, state_after, reply_of_call, Does, Permits}
 use Rattle.kn_daemon.specs.Linearized.{requests_in}
 use Rattle.kn_daemon.specs.Served.{is_bye}
 use Rattle.kn_daemon.specs.PermissionLaws.{OpenIsNew, CloseEnds, UnwatchEnds}
@@ -39,7 +38,7 @@ open-new g caller past old s version new p =
     (number, ap (λ x. x.started) p.next ∙ sym number, cc told)
 
 looked-started : (past : List Update) (state : State) (look : Look)
-    → state.started ≤ (state_after_look past state look).started
+    → state.started ≤ (state_after past state (Looks look)).started
 looked-started past state ForOpen = omega arith
 looked-started past state (ForPin s) = omega arith
 looked-started past state (ForPinAt s version) = by (retained_version past version)
@@ -50,11 +49,11 @@ looked-started past state (ForPinAt s version) = by (retained_version past versi
 looked-started past state (ForNews s) = omega arith
 looked-started past state (ForLog n) = omega arith
 
-questioned-started : (state : State) (question : Question) (s : ℕ) (names : List ℕ)
-    → state.started ≤ (state_after_question state question s names).started
-questioned-started state WithProof s names = omega arith
-questioned-started state WithCritical s names = omega arith
-questioned-started state ToKeep s names = by (values_of names)
+questioned-started : (past : List Update) (state : State) (question : Question) (s : ℕ) (names : List ℕ)
+    → state.started ≤ (state_after past state (Asks question s names)).started
+questioned-started past state WithProof s names = omega arith
+questioned-started past state WithCritical s names = omega arith
+questioned-started past state ToKeep s names = by (values_of names)
   where
     by : (o : Option (List (List ℕ))) → state.started ≤ (state_keeping state s o).started
     by None = omega arith
@@ -71,7 +70,8 @@ module _ (g : DaemonConfig) (caller : ℕ) (past : List Update) (old : State) wh
   goes-on (Calls s call) reply new d = subst NoFewer (sym d.next) same
   goes-on (Updates update) reply new d = subst NoFewer (sym d.next) same
   goes-on (Looks look) reply new d = subst NoFewer (sym d.next) (looked-started past old look)
-  goes-on (Asks question s names) reply new d = subst NoFewer (sym d.next) (questioned-started old question s names)
+  goes-on (Asks question s names) reply new d =
+      subst NoFewer (sym d.next) (questioned-started past old question s names)
   goes-on (Controls (ShowSecret bytes)) reply new d = subst NoFewer (sym d.next) same
   goes-on (Controls Leave) reply new d = subst NoFewer (sym d.next) same
   goes-on (AtFault fault) reply new d = subst NoFewer (sym d.next) same
@@ -99,7 +99,7 @@ pub unwatch-ends : UnwatchEnds
 unwatch-ends g caller past old s new p = by (session_of old s) refl p.answered
   where
     by : (o : Option Session) → session_of old s ≡ o
-        → IsSomeAnd o (λ x. Done ≡ reply_of_call (C.call_answer C.Unwatch x))
+        → IsSomeAnd o (λ x. Done ≡ reply_of_call C.Unwatch x)
         → IsSomeAnd o (λ x. session_of new s ≡ Some (end_standing x))
     by None found h = absurd h
     by (Some x) found h =
@@ -121,12 +121,12 @@ ahead n length refusal due = by (nat_lt length n) refl
     by false is e within = absurd (cc e)
 
 pub refused-look_not_told : RefusedLookIsNotReported
-refused-look_not_told past old ForOpen refusal reply e a = absurd (cc e)
-refused-look_not_told past old (ForPin s) refusal reply e a = absurd (cc e)
-refused-look_not_told past old (ForNews s) refusal reply e a = absurd (cc e)
-refused-look_not_told past old (ForPinAt s version) refusal reply e a =
+refused-look_not_told caller past old ForOpen refusal reply e a = absurd (cc e)
+refused-look_not_told caller past old (ForPin s) refusal reply e a = absurd (cc e)
+refused-look_not_told caller past old (ForNews s) refusal reply e a = absurd (cc e)
+refused-look_not_told caller past old (ForPinAt s version) refusal reply e a =
     not-retained (retained_version past version) refusal (R.Retained (length past)) e a.0
-refused-look_not_told past old (ForLog n) refusal reply e a =
+refused-look_not_told caller past old (ForLog n) refusal reply e a =
     ahead n (length past) refusal (R.Ahead (length past)) e a.0
 
 -- BYE is among the first requests where that many stand behind it

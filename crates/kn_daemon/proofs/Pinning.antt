@@ -6,17 +6,17 @@ use Rattle.std.proofs.lemmas.Bool.{leb-true}
 use Rattle.kn_base.specs.declared.limits.TheConstants.{RETAINED_VERSIONS}
 use Rattle.kn_history.specs.declared.update.Update.{Update}
 use Rattle.kn_history.specs.Retained.{is_retained, retained_version}
-use Rattle.kn_session.specs.Sessions.{Session, fault_in, pin_at}
+use Rattle.kn_session.specs.Sessions.{Session, pin_at}
 use Rattle.kn_session.proofs.StandingQueries.{found_here}
 use Rattle.kn_reply.specs.Replies.{Number, PinnedAt}
-use Rattle.kn_daemon.specs.Daemon.{State, session_of, refusal_by, pinned_to}
+use Rattle.kn_daemon.specs.Daemon.{State, session_of, in_session, pinned_to}
 use Rattle.kn_daemon.specs.PermissionLaws.{PinIsReported, RetainedPinIsReported}
 
 -- a session that isn't refused is open
-pub was-open : (s : ℕ) (P : Session → Type 0) (o : Option Session) → refusal_by (fault_in s o (λ x. None)) ≡ None
+pub was-open : (P : Session → Type 0) (o : Option Session) → in_session o (λ x. None) ≡ None
     → ((x : Session) → o ≡ Some x → P x) → IsSomeAnd o P
-was-open s P None e h = absurd (cc e)
-was-open s P (Some x) e h = h x refl
+was-open P None e h = absurd (cc e)
+was-open P (Some x) e h = h x refl
 
 -- the session of a number that was pinned
 pinned-here : (old new : State) (s : ℕ) (past : List Update) (x : Session)
@@ -46,7 +46,7 @@ pub pin-told : PinIsReported
 pin-told g caller past old s version new p =
     let told : Number version ≡ Number (length past) = p.answered in (
       cc told,
-      was-open s (λ x. session_of new s ≡ Some (pin_at past x)) (session_of old s) p.accepted
+      was-open (λ x. session_of new s ≡ Some (pin_at past x)) (session_of old s) p.accepted
           (λ x found. pinned-here old new s past x p.next found),
     )
 
@@ -59,6 +59,6 @@ retained-pin_told g caller past old s n version newest new p =
       cc told,
       cc told,
       no-later past n there,
-      was-open s (λ x. session_of new s ≡ Some (pin_at (take n past) x)) (session_of old s) p.accepted
+      was-open (λ x. session_of new s ≡ Some (pin_at (take n past) x)) (session_of old s) p.accepted
           (λ x found. pinned-here old new s (take n past) x next found),
     )

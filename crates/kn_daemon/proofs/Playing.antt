@@ -10,8 +10,8 @@ use Rattle.kn_reply.specs.declared.refusal.Refusal.TheVariants as R
 use Rattle.kn_history.specs.Retained.{retained_version}
 use Rattle.kn_daemon.specs.Shapes.{Look, ForOpen, ForPin, ForPinAt, ForNews, ForLog, Shape, Updates, Looks}
 use Rattle.kn_daemon.specs.Shapes.{shape_of}
-use Rattle.kn_daemon.specs.Daemon.{DaemonConfig, State, refuse_if, own_refusal, placed_refusal, placed_refusal_of_look}
-use Rattle.kn_daemon.specs.Daemon.{first_refusal, pinned_to, state_after_look, state_after, Does, Permits}
+use Rattle.kn_daemon.specs.Daemon.{DaemonConfig, State, refuse_if, own_refusal, placed_refusal, first_refusal}
+use Rattle.kn_daemon.specs.Daemon.{pinned_to, state_after, Does, Permits}
 use Rattle.kn_daemon.specs.Linearized.{Exchange, Along, requests_in}
 use Rattle.kn_daemon.specs.Played.{after_request, played}
 
@@ -22,7 +22,7 @@ accepted g caller past old request reply new d =
 
 -- a look for which the history hasn't what is asked changes no state
 refused-look : (past : List Update) (old : State) (look : Look) (refusal : Refusal)
-    → placed_refusal_of_look past look ≡ Some refusal → old ≡ state_after_look past old look
+    → placed_refusal past (Looks look) ≡ Some refusal → old ≡ state_after past old (Looks look)
 refused-look past old ForOpen refusal e = absurd (cc (e))
 refused-look past old (ForPin s) refusal e = absurd (cc (e))
 refused-look past old (ForPinAt s version) refusal e = by (retained_version past version) e

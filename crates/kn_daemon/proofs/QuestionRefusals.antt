@@ -1,7 +1,7 @@
 -- What refuses questions, NEWS and UNWATCH.
 use Rattle.std.proofs.Common.{◌≡◌, ◌≤◌, ◌<◌, ℕ, Bool, true, false, List, Option, Some, None, refl, sym, ap, ◌∙◌, subst}
 use Rattle.std.proofs.Common.{ltb-true}
-use Rattle.std.specs.Prelude.{IsSomeAnd, is_none, nat_lt, option_and_then, if◌then◌else◌}
+use Rattle.std.specs.Prelude.{IsSomeAnd, is_none, nat_lt, if◌then◌else◌}
 use Rattle.std.specs.Option.{option_or}
 use Rattle.std.proofs.lemmas.Bool.{ltb-false}
 use Rattle.kn_base.specs.declared.limits.TheConstants.{CRITICAL_NODES}
@@ -10,8 +10,7 @@ use Rattle.kn_proof.specs.declared.named.Id.{Id}
 use Rattle.kn_meaning.specs.Critical.{equation_nodes}
 use Rattle.kn_history.specs.declared.update.Update.{Update}
 use Rattle.kn_session.specs.declared.fault.SessionFault.TheVariants as F
-use Rattle.kn_session.specs.Sessions.{Session, fault_if, fault_in, standing_fault}
-use Rattle.kn_session.specs.Calls.{call_fault_in, own_fault}
+use Rattle.kn_session.specs.Sessions.{Session, fault_if, standing_fault}
 use Rattle.kn_session.specs.Calls as C
 use Rattle.kn_reply.specs.declared.refusal.Refusal.{Refusal}
 use Rattle.kn_reply.specs.declared.refusal.Refusal.TheVariants as R
@@ -26,8 +25,8 @@ use Rattle.kn_daemon.specs.QuestionLaws.{ClosedIsRefused, NamesAreRefused, NoneS
 pub closed-refused : ClosedIsRefused
 closed-refused g state s question names closed = (
   ap (λ o. in_session o (λ x. refusal_of_names (values_of names) (refusal_of_question question x))) closed,
-  ap (λ o. refusal_by (fault_in s o standing_fault)) closed,
-  ap (λ o. option_and_then refusal_of_call (call_fault_in s o C.Unwatch)) closed,
+  ap (λ o. in_session o (λ x. refusal_by (standing_fault x))) closed,
+  ap (λ o. in_session o (refusal_of_call C.Unwatch)) closed,
 )
 
 pub names-refused : NamesAreRefused
@@ -37,18 +36,13 @@ names-refused g state s session question names found none =
 
 pub none-standing_refused : NoneStandingIsRefused
 none-standing_refused g state s session found = (
-  ap (λ o. refusal_by (fault_in s o standing_fault)) found ∙ by_news (is_none session.standing),
-  ap (λ o. option_and_then refusal_of_call (call_fault_in s o C.Unwatch)) found ∙ by_end (is_none session.standing),
+  ap (λ o. in_session o (λ x. refusal_by (standing_fault x))) found ∙ by (is_none session.standing),
+  ap (λ o. in_session o (refusal_of_call C.Unwatch)) found ∙ by (is_none session.standing),
 )
   where
-    by_news : (b : Bool) → refusal_by (fault_if b F.Absent None) ≡ (if b then Some R.Unknown else None)
-    by_news true = refl
-    by_news false = refl
-
-    by_end : (b : Bool) → option_and_then refusal_of_call (own_fault (fault_if b F.Absent None))
-        ≡ (if b then Some R.Unknown else None)
-    by_end true = refl
-    by_end false = refl
+    by : (b : Bool) → refusal_by (fault_if b F.Absent None) ≡ (if b then Some R.Unknown else None)
+    by true = refl
+    by false = refl
 
 -- The nodes of a query.
 
@@ -79,15 +73,14 @@ module _ (g : DaemonConfig) (caller : ℕ) (past : List Update) (old new : State
       → Permits g caller past old (Asks WithCritical s names) (Critical level ids) new
       → IsSomeAnd (session_of old s)
       (λ x. IsSomeAnd (values_of names) (λ values. equation_nodes (equations_of x values) ≤ CRITICAL_NODES))
-  critical-small level ids p = by (session_of old s) (values_of names) p.accepted p.answered.found p.answered.named
+  critical-small level ids p = by (session_of old s) (values_of names) p.accepted
     where
       by : (session : Option Session) (values : Option (List (List ℕ))) → asked-refusal session values ≡ None
-          → session ≡ Some p.answered.session → values ≡ Some p.answered.values
           → IsSomeAnd session
           (λ x. IsSomeAnd values (λ v. equation_nodes (equations_of x v) ≤ CRITICAL_NODES))
-      by None values none found named = cc
-      by (Some x) None none found named = cc
-      by (Some x) (Some v) none found named = few-nodes (equation_nodes (equations_of x v)) none
+      by None values none = absurd (cc none)
+      by (Some x) None none = absurd (cc none)
+      by (Some x) (Some v) none = few-nodes (equation_nodes (equations_of x v)) none
 
   pub critical-large : (n : ℕ) → Permits g caller past old (Asks WithCritical s names) (No (R.Limit W.Nodes n)) new
       → IsSomeAnd (session_of old s) (λ x. IsSomeAnd (values_of names)

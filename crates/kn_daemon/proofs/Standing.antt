@@ -16,10 +16,10 @@ use Rattle.kn_reply.specs.Replies.{Reply, News, No, NoMemory}
 use Rattle.kn_daemon.specs.Shapes.{Look, ForOpen, ForPin, ForPinAt, ForNews, ForLog, Question, WithProof}
 use Rattle.kn_daemon.specs.Shapes.{WithCritical, ToKeep, Control, ShowSecret, Leave, Shape, Calls, Updates, Looks, Asks}
 use Rattle.kn_daemon.specs.Shapes.{Controls, AtFault}
-use Rattle.kn_daemon.specs.Daemon.{DaemonConfig, State, session_of, pinned_to, state_after_look, state_keeping}
-use Rattle.kn_daemon.specs.Daemon.{state_after_question, state_after_control, state_after}
+use Rattle.kn_daemon.specs.Daemon.{DaemonConfig, State, session_of, pinned_to, state_keeping, state_after}
 use Rattle.kn_daemon.specs.Daemon.{IsNews, Does, Permits}
 use Rattle.kn_daemon.specs.QuestionLaws.{standing_of}
+use Rattle.kn_daemon.proofs.Answered.{question-answered, news-answered}
 
 -- a session that comes last and has none
 standing-started : (t : ℕ) (xs : List Session) (y : Session) → y.standing ≡ None
@@ -53,7 +53,7 @@ standing-called s t C.Unwatch no_close no_end xs =
 standing-called s t call no_close no_end xs = calls_keep_standing xs t s call (λ e. cc e) (λ e. cc e)
 
 standing-looked : (past : List Update) (state : State) (look : Look) (t : ℕ) → Looks look ≢ Looks (ForNews t)
-    → standing_of (state_after_look past state look) t ≡ standing_of state t
+    → standing_of (state_after past state (Looks look)) t ≡ standing_of state t
 standing-looked past state ForOpen t other =
     standing-started t state.sessions (started_session (state.started + 1) past) refl
 standing-looked past state (ForPin s) t other = pins_keep_standing state.sessions t s past
@@ -67,12 +67,12 @@ standing-looked past state (ForNews s) t other =
     (λ e. other (ap (λ k. Looks (ForNews k)) e))
 standing-looked past state (ForLog n) t other = refl
 
-standing-questioned : (state : State) (question : Question) (s : ℕ) (names : List ℕ) (t : ℕ)
+standing-questioned : (past : List Update) (state : State) (question : Question) (s : ℕ) (names : List ℕ) (t : ℕ)
     → ((text : List ℕ) → Asks question s names ≢ Asks ToKeep t text)
-    → standing_of (state_after_question state question s names) t ≡ standing_of state t
-standing-questioned state WithProof s names t other = refl
-standing-questioned state WithCritical s names t other = refl
-standing-questioned state ToKeep s names t other = by (values_of names)
+    → standing_of (state_after past state (Asks question s names)) t ≡ standing_of state t
+standing-questioned past state WithProof s names t other = refl
+standing-questioned past state WithCritical s names t other = refl
+standing-questioned past state ToKeep s names t other = by (values_of names)
   where
     by : (o : Option (List (List ℕ))) → standing_of (state_keeping state s o) t ≡ standing_of state t
     by None = refl
@@ -80,10 +80,10 @@ standing-questioned state ToKeep s names t other = by (values_of names)
         standing-other (watch_with values) (λ x. refl) state.sessions s t
         (λ e. other names (ap (λ k. Asks ToKeep k names) e))
 
-standing-controlled : (state : State) (control : Control) (t : ℕ)
-    → standing_of (state_after_control state control) t ≡ standing_of state t
-standing-controlled state (ShowSecret bytes) t = refl
-standing-controlled state Leave t = refl
+standing-controlled : (past : List Update) (state : State) (control : Control) (t : ℕ)
+    → standing_of (state_after past state (Controls control)) t ≡ standing_of state t
+standing-controlled past state (ShowSecret bytes) t = refl
+standing-controlled past state Leave t = refl
 
 module _ (g : DaemonConfig) (caller : ℕ) (past : List Update) (old : State) where
   standing-changed : (shape : Shape) (t : ℕ) → shape ≢ Calls t C.Close → shape ≢ Calls t C.Unwatch
@@ -94,8 +94,8 @@ module _ (g : DaemonConfig) (caller : ℕ) (past : List Update) (old : State) wh
   standing-changed (Updates update) t no_close no_end no_watch no_news = refl
   standing-changed (Looks look) t no_close no_end no_watch no_news = standing-looked past old look t no_news
   standing-changed (Asks question s names) t no_close no_end no_watch no_news =
-      standing-questioned old question s names t no_watch
-  standing-changed (Controls control) t no_close no_end no_watch no_news = standing-controlled old control t
+      standing-questioned past old question s names t no_watch
+  standing-changed (Controls control) t no_close no_end no_watch no_news = standing-controlled past old control t
   standing-changed (AtFault fault) t no_close no_end no_watch no_news = refl
 
   pub standing-stays : (shape : Shape) (reply : Reply) (new : State) (t : ℕ)
@@ -116,7 +116,7 @@ module _ (g : DaemonConfig) (caller : ℕ) (past : List Update) (old : State) wh
       → (version ≡ length past) × (standing_of new s ≡ option_map (query_at past) (standing_of old s))
       × IsSomeAnd (standing_of new s) (λ query. IsNews query (News index name version))
   news-of_place s index name version new p =
-      let a = p.answered in
+      let a = news-answered caller past old s (News index name version) p.answered in
       let told : News index name version
       ≡ News a.news.level (slice_index_or a.query.values a.news.level []) (length past) = a.news.exact in
       let moved : standing_of new s ≡ option_map (query_at past) (standing_of old s) =
@@ -134,7 +134,7 @@ module _ (g : DaemonConfig) (caller : ℕ) (past : List Update) (old : State) wh
       → IsSomeAnd (session_of old s) (λ x. version ≡ length x.pinned)
       × IsSomeAnd (standing_of new s) (λ query. IsNews query (News index name version))
   watch-of_pin s names index name version new p =
-      let a = p.answered in
+      let a = question-answered caller past old ToKeep s names (News index name version) p.answered in
       let told : News index name version
       ≡ News a.answer.level (slice_index_or a.values a.answer.level []) (length a.session.pinned) = a.answer.exact in
       let at : version ≡ length a.session.pinned = cc told in

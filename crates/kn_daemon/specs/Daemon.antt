@@ -1,8 +1,7 @@
 -- The sequential specification: what a daemon of one thread may reply (keynoted's own; the calls are those of
 -- keynote(3)). Requests are known by their shape, which has its cases in `own_refusal`, `placed_refusal`,
--- `state_after`,
--- `Answers` and `may_lack_memory`; where the last equation of one is for all other shapes, nothing is refused there,
--- nothing changes, and memory doesn't run out.
+-- `state_after`, `Answers` and `may_lack_memory`; where the last equation of one is for all other shapes, nothing is
+-- refused there, nothing changes, and memory doesn't run out.
 use Rattle.std.specs.Prelude.{ℕ, ◌≡◌, ◌+◌, ◌≤◌, Bool, true, false, ◌==◌, ◌&&◌, not, nat_lt, List, [], ◌∷◌, ◌++◌, length}
 use Rattle.std.specs.Prelude.{map, slice_index_or, Option, Some, None, option_map, option_and_then, is_none}
 use Rattle.std.specs.Prelude.{IsSome, IsSomeAnd, Result, Ok, Err, if◌then◌else◌}
@@ -31,14 +30,9 @@ use Rattle.kn_history.specs.Retained.{retained_version}
 pub use Rattle.kn_session.specs.Asking.{part_by, parts_of, session_parts, asked_of, equations_of}
 use Rattle.kn_session.specs.declared.fault.SessionFault.{SessionFault}
 use Rattle.kn_session.specs.declared.fault.SessionFault.TheVariants as S
-use Rattle.kn_session.specs.declared.fault.CallFault.{CallFault}
-use Rattle.kn_session.specs.declared.fault.CallFault.TheVariants as T
-use Rattle.kn_session.specs.declared.call.Applied.{Applied}
-use Rattle.kn_session.specs.declared.call.Applied.TheVariants as A
 use Rattle.kn_session.specs.Sessions.{StandingQuery, Session, session_in, with_changed, with_started, start_fault}
-use Rattle.kn_session.specs.Sessions.{fault_in, pin_at}
-use Rattle.kn_session.specs.Sessions.{query_with, watch_with, query_at, move_standing, asker, standing_fault}
-use Rattle.kn_session.specs.Calls.{call_fault_in, after_call, call_answer, call_may_lack_memory}
+use Rattle.kn_session.specs.Sessions.{pin_at, query_with, watch_with, query_at, move_standing, asker, standing_fault}
+use Rattle.kn_session.specs.Calls.{Call, Assert, private_fault, session_fault, after_call, call_may_lack_memory}
 use Rattle.kn_wire.specs.declared.fault.WireFault.{WireFault}
 use Rattle.kn_wire.specs.declared.fault.WireFault.TheVariants as F
 use Rattle.kn_wire.specs.Items.{BatchItem, items_of}
@@ -50,9 +44,9 @@ use Rattle.kn_reply.specs.declared.refusal.ItemRefusal.TheVariants as I
 use Rattle.kn_reply.specs.declared.refusal.LimitWord.{LimitWord}
 use Rattle.kn_reply.specs.declared.refusal.LimitWord.TheVariants as W
 use Rattle.kn_reply.specs.Logs.{item_of}
-use Rattle.kn_daemon.specs.Shapes.{Updating, AddText, DropId, ApplyBlock, Look, ForOpen, ForPin, ForPinAt}
-use Rattle.kn_daemon.specs.Shapes.{ForNews, ForLog, Question, WithProof, WithCritical, ToKeep, Control, ShowSecret}
-use Rattle.kn_daemon.specs.Shapes.{Leave, Shape, Calls, Updates, Looks, Asks, Controls, AtFault}
+use Rattle.kn_daemon.specs.Shapes.{AddText, DropId, ApplyBlock, ForOpen, ForPin, ForPinAt, ForNews, ForLog, Question}
+use Rattle.kn_daemon.specs.Shapes.{WithProof, WithCritical, ToKeep, ShowSecret, Leave, Shape, Calls, Updates, Looks}
+use Rattle.kn_daemon.specs.Shapes.{Asks, Controls, AtFault}
 use Rattle.kn_reply.specs.Replies.{Reply, Done, Started, Number, PrivateAdded, Added, Value, Batched, PinnedAt, Log}
 use Rattle.kn_reply.specs.Replies.{News, Critical, No, NoMemory}
 
@@ -108,35 +102,28 @@ refusal_of_session S.NoMemory = None
 abbrev pub refusal_by : Option SessionFault → Option Refusal
 refusal_by fault = option_and_then refusal_of_session fault
 
--- what refuses a request to an open session
+-- what refuses a request to the session that is found: it isn't open, or for a refusal of its own
 abbrev pub in_session : Option Session → (Session → Option Refusal) → Option Refusal
 in_session None refusal = Some R.Session
 in_session (Some session) refusal = refusal session
 
--- the session isn't open, or the fault is one of its own
-abbrev pub session_refusal : State → ℕ → (Session → Option SessionFault) → Option Refusal
-session_refusal state s fault = refusal_by (fault_in s (session_of state s) fault)
-
 -- The refusal that the fault of a text is, however it is reported: of a request, or of an item of a batch. None when
 -- out of memory.
 abbrev pub refusal_at_text : {X : Type 0} → (ℕ → ℕ → X) → ReadFault → Option X
-refusal_at_text told fault = option_map (λ number. told number (fault_place fault)) (fault_number fault)
-
-abbrev pub refusal_of_text : ReadFault → Option Refusal
-refusal_of_text fault = refusal_at_text R.Read fault
+refusal_at_text report fault = option_map (λ number. report number (fault_place fault)) (fault_number fault)
 
 -- a text that has no reading is refused by its first fault, which is never `NoMemory`
 abbrev pub refusal_at_reading : {X : Type 0} → (ℕ → ℕ → X) → Result Assertion ReadFault → (Assertion → Option X)
     → Option X
-refusal_at_reading told (Ok assertion) next = next assertion
-refusal_at_reading told (Err fault) next = refusal_at_text told fault
+refusal_at_reading report (Ok assertion) next = next assertion
+refusal_at_reading report (Err fault) next = refusal_at_text report fault
 
 abbrev pub is_secret : List ℕ → List ℕ → Bool
 is_secret secret bytes = nat_lt 0 (length secret) && bytes_eq secret bytes
 
 -- what the authenticator's number refuses, however it is reported
 abbrev pub refusal_at_verdict : {X : Type 0} → (ℕ → X) → ℕ → Option X
-refusal_at_verdict told number = if not (number == 0) then Some (told number) else None
+refusal_at_verdict report number = if not (number == 0) then Some (report number) else None
 
 -- why an item of a batch isn't admitted: its text has a fault, or the authenticator has one
 abbrev pub item_refusal : DaemonConfig → BatchItem → Option ItemRefusal
@@ -144,15 +131,11 @@ item_refusal g (B.AddText text) =
     refusal_at_reading I.Read (reading_of text) (λ a. refusal_at_verdict I.Auth (g.verdict text a))
 item_refusal g (B.DropId k) = None
 
--- the item of this number is refused for this, or else what comes later is
-abbrev pub found_item : ℕ → Option ItemRefusal → Option Refusal → Option Refusal
-found_item number None later = later
-found_item number (Some inner) later = Some (R.Item number inner)
-
 -- the first item that isn't admitted, where they are counted from this number
 abbrev pub refusal_from : DaemonConfig → ℕ → List BatchItem → Option Refusal
 refusal_from g number [] = None
-refusal_from g number (item ∷ items) = found_item number (item_refusal g item) (refusal_from g (number + 1) items)
+refusal_from g number (item ∷ items) =
+    option_or (option_map (R.Item number) (item_refusal g item)) (refusal_from g (number + 1) items)
 
 -- a block that departs from the form of items is refused for that, and else for the first item that isn't admitted,
 -- counted from 1
@@ -160,33 +143,16 @@ abbrev pub refusal_of_block : DaemonConfig → Result (List BatchItem) ℕ → O
 refusal_of_block g (Ok items) = refusal_from g 1 items
 refusal_of_block g (Err number) = Some (R.Batch number)
 
--- the refusal that a fault of a call is; none when out of memory
-abbrev pub refusal_of_call : CallFault → Option Refusal
-refusal_of_call (T.Text fault) = refusal_of_text fault
-refusal_of_call (T.Session fault) = refusal_of_session fault
+-- what refuses a call of an open session; an assertion is judged once its text is read
+abbrev pub refusal_of_call : Call → Session → Option Refusal
+refusal_of_call (Assert text) session =
+    refusal_at_reading R.Read (reading_of text) (λ assertion. refusal_by (private_fault text assertion session))
+refusal_of_call call session = refusal_by (session_fault call session)
 
-abbrev pub refusal_of_update : DaemonConfig → Updating → Option Refusal
-refusal_of_update g (AddText text) =
-    refusal_at_reading R.Read (reading_of text) (λ a. refusal_at_verdict R.Auth (g.verdict text a))
-refusal_of_update g (DropId k) = None
-refusal_of_update g (ApplyBlock block) = refusal_of_block g (items_of block)
-
--- the updates themselves are shown to an administrator alone
-abbrev pub refusal_of_look : State → Look → Option Refusal
-refusal_of_look state ForOpen = refusal_by (start_fault state.sessions)
-refusal_of_look state (ForPin s) = session_refusal state s (λ x. None)
-refusal_of_look state (ForPinAt s version) = session_refusal state s (λ x. None)
-refusal_of_look state (ForNews s) = session_refusal state s standing_fault
-refusal_of_look state (ForLog n) = refuse_if (not state.is_admin) R.Admin None
-
-abbrev pub refusal_of_control : DaemonConfig → Control → Option Refusal
-refusal_of_control g (ShowSecret bytes) = refuse_if (not (is_secret g.secret bytes)) R.Admin None
-refusal_of_control g Leave = None
-
+-- More nodes than the critical assertions of a query are looked for in are refused: the number of nodes is named.
 abbrev pub refusal_of_nodes : ℕ → Option Refusal
 refusal_of_nodes nodes = refuse_if (nat_lt CRITICAL_NODES nodes) (R.Limit W.Nodes nodes) None
 
--- More nodes than the critical assertions of a query are looked for in are refused: the number of nodes is named.
 abbrev pub refusal_of_question : Question → Session → List (List ℕ) → Option Refusal
 refusal_of_question WithCritical session values = refusal_of_nodes (equation_nodes (equations_of session values))
 refusal_of_question question session values = None
@@ -196,13 +162,23 @@ abbrev pub refusal_of_names : Option (List (List ℕ)) → (List (List ℕ) → 
 refusal_of_names None next = Some R.Values
 refusal_of_names (Some values) next = next values
 
+-- updates are made, and shown, for an administrator alone
 abbrev pub own_refusal : DaemonConfig → State → Shape → Option Refusal
-own_refusal g state (Calls s call) = option_and_then refusal_of_call (call_fault_in s (session_of state s) call)
-own_refusal g state (Updates update) = refuse_if (not state.is_admin) R.Admin (refusal_of_update g update)
-own_refusal g state (Looks look) = refusal_of_look state look
+own_refusal g state (Calls s call) = in_session (session_of state s) (refusal_of_call call)
+own_refusal g state (Updates (AddText text)) = refuse_if (not state.is_admin) R.Admin
+    (refusal_at_reading R.Read (reading_of text) (λ a. refusal_at_verdict R.Auth (g.verdict text a)))
+own_refusal g state (Updates (DropId k)) = refuse_if (not state.is_admin) R.Admin None
+own_refusal g state (Updates (ApplyBlock block)) =
+    refuse_if (not state.is_admin) R.Admin (refusal_of_block g (items_of block))
+own_refusal g state (Looks ForOpen) = refusal_by (start_fault state.sessions)
+own_refusal g state (Looks (ForPin s)) = in_session (session_of state s) (λ x. None)
+own_refusal g state (Looks (ForPinAt s version)) = in_session (session_of state s) (λ x. None)
+own_refusal g state (Looks (ForNews s)) = in_session (session_of state s) (λ x. refusal_by (standing_fault x))
+own_refusal g state (Looks (ForLog n)) = refuse_if (not state.is_admin) R.Admin None
 own_refusal g state (Asks question s names) =
     in_session (session_of state s) (λ x. refusal_of_names (values_of names) (refusal_of_question question x))
-own_refusal g state (Controls control) = refusal_of_control g control
+own_refusal g state (Controls (ShowSecret bytes)) = refuse_if (not (is_secret g.secret bytes)) R.Admin None
+own_refusal g state (Controls Leave) = None
 own_refusal g state (AtFault fault) = Some (refusal_of_fault fault)
 
 -- Refusals by the history before the request.
@@ -222,32 +198,27 @@ refusal_of_store fault = refusal_at_store R.Unknown R.Limit fault
 
 -- the refusal that the fault of the item of this number is
 abbrev pub refusal_of_item_fault : ℕ → StoreFault → Option Refusal
-refusal_of_item_fault number fault =
-    option_map (λ inner. R.Item number inner) (refusal_at_store I.Unknown I.Limit fault)
+refusal_of_item_fault number fault = option_map (R.Item number) (refusal_at_store I.Unknown I.Limit fault)
 
--- the first item of a block that the history refuses behind those in front of it
-abbrev pub refusal_of_batch : List Update → Result (List BatchItem) ℕ → Option Refusal
-refusal_of_batch past (Ok items) =
-    option_and_then (λ found. refusal_of_item_fault found.0 found.1)
-    (refusal_of_items (all_changes past) (map item_of items))
-refusal_of_batch past (Err number) = None
+-- the items of a block, where it has their form
+abbrev pub read_items : Result (List BatchItem) ℕ → Option (List Item)
+read_items (Ok items) = Some (map item_of items)
+read_items (Err number) = None
 
-abbrev pub placed_refusal_of_update : List Update → Updating → Option Refusal
-placed_refusal_of_update past (AddText text) =
-    option_and_then refusal_of_store (fault_of_addition (all_changes past) text)
-placed_refusal_of_update past (DropId k) = option_and_then refusal_of_store (fault_of_removal (all_changes past) k)
-placed_refusal_of_update past (ApplyBlock block) = refusal_of_batch past (items_of block)
+-- the first item that the history refuses behind those in front of it
+abbrev pub refusal_of_batch : List Update → List Item → Option Refusal
+refusal_of_batch past items =
+    option_and_then (λ found. refusal_of_item_fault found.0 found.1) (refusal_of_items (all_changes past) items)
 
 -- a version isn't retained, or there are fewer updates than that: the newest version is named
-abbrev pub placed_refusal_of_look : List Update → Look → Option Refusal
-placed_refusal_of_look past (ForPinAt s version) =
-    refuse_if (is_none (retained_version past version)) (R.Retained (length past)) None
-placed_refusal_of_look past (ForLog n) = refuse_if (nat_lt (length past) n) (R.Ahead (length past)) None
-placed_refusal_of_look past look = None
-
 abbrev pub placed_refusal : List Update → Shape → Option Refusal
-placed_refusal past (Updates update) = placed_refusal_of_update past update
-placed_refusal past (Looks look) = placed_refusal_of_look past look
+placed_refusal past (Updates (AddText text)) =
+    option_and_then refusal_of_store (fault_of_addition (all_changes past) text)
+placed_refusal past (Updates (DropId k)) = option_and_then refusal_of_store (fault_of_removal (all_changes past) k)
+placed_refusal past (Updates (ApplyBlock block)) = option_and_then (refusal_of_batch past) (read_items (items_of block))
+placed_refusal past (Looks (ForPinAt s version)) =
+    refuse_if (is_none (retained_version past version)) (R.Retained (length past)) None
+placed_refusal past (Looks (ForLog n)) = refuse_if (nat_lt (length past) n) (R.Ahead (length past)) None
 placed_refusal past shape = None
 
 -- the first refusal that applies: those by the history come after all others
@@ -261,35 +232,23 @@ abbrev pub pinned_to : State → ℕ → Option (List Update) → State
 pinned_to state s None = state
 pinned_to state s (Some version) = with_session state s (pin_at version)
 
-abbrev pub state_after_look : List Update → State → Look → State
-state_after_look past state ForOpen = record state {
-  started = state.started + 1;
-  sessions = with_started state.started state.sessions past;
-}
-state_after_look past state (ForPin s) = with_session state s (pin_at past)
-state_after_look past state (ForPinAt s version) = pinned_to state s (retained_version past version)
-state_after_look past state (ForNews s) = with_session state s (move_standing past)
-state_after_look past state (ForLog n) = state
-
 -- a question that names compliance values is kept as the session's standing query
 abbrev pub state_keeping : State → ℕ → Option (List (List ℕ)) → State
 state_keeping state s None = state
 state_keeping state s (Some values) = with_session state s (watch_with values)
 
-abbrev pub state_after_question : State → Question → ℕ → List ℕ → State
-state_after_question state ToKeep s names = state_keeping state s (values_of names)
-state_after_question state question s names = state
-
-abbrev pub state_after_control : State → Control → State
-state_after_control state (ShowSecret bytes) = record state { is_admin = true }
-state_after_control state Leave = state
-
 -- what an accepted request after this history makes of the state
 abbrev pub state_after : List Update → State → Shape → State
 state_after past state (Calls s call) = record state { sessions = after_call state.sessions s call }
-state_after past state (Looks look) = state_after_look past state look
-state_after past state (Asks question s names) = state_after_question state question s names
-state_after past state (Controls control) = state_after_control state control
+state_after past state (Looks ForOpen) = record state {
+  started = state.started + 1;
+  sessions = with_started state.started state.sessions past;
+}
+state_after past state (Looks (ForPin s)) = with_session state s (pin_at past)
+state_after past state (Looks (ForPinAt s version)) = pinned_to state s (retained_version past version)
+state_after past state (Looks (ForNews s)) = with_session state s (move_standing past)
+state_after past state (Asks ToKeep s names) = state_keeping state s (values_of names)
+state_after past state (Controls (ShowSecret bytes)) = record state { is_admin = true }
 state_after past state shape = state
 
 -- Answers.
@@ -323,67 +282,44 @@ AnswersQuestion WithProof session values reply = IsAnswer session values reply
 AnswersQuestion WithCritical session values reply = IsCriticalAnswer session values reply
 AnswersQuestion ToKeep session values reply = IsNews (query_with values session) reply
 
--- the question on an open session is answered
-pub record IsAnswered (state : State) (question : Question) (s : ℕ) (names : List ℕ) (reply : Reply) : Type 0 where
-  pub session : Session
-  pub values : List (List ℕ)
-  pub found : session_of state s ≡ Some session
-  pub named : values_of names ≡ Some values
-  pub answer : AnswersQuestion question session values reply
-
--- the standing query of an open session is answered over the version of this history
-pub record IsStandingAnswered (past : List Update) (state : State) (s : ℕ) (reply : Reply) : Type 0 where
-  pub session : Session
-  pub query : StandingQuery
-  pub found : session_of state s ≡ Some session
-  pub standing : session.standing ≡ Some query
-  pub news : IsNews (query_at past query) reply
-
 -- the history ends with this update, which may follow what is before it
 pub record IsCommitted (past : List Update) (update : Update) : Type 0 where
   pub before : List Update
   pub ends : past ≡ before ++ update ∷ []
   pub accepted : update_may_follow (all_changes before) update ≡ true
 
--- The history ends with this caller's update that makes the changes of these items, which may follow what is before it.
--- The reply names the id that its first addition has, or would have, the number of its additions, and its place.
+-- The history ends with this caller's update that makes the changes of these items. The reply names the id that its
+-- first addition has, or would have, the number of its additions, and its place.
 pub record IsBatchCommitted (caller : ℕ) (past : List Update) (items : List Item) (reply : Reply) : Type 0 where
-  pub before : List Update
-  pub ends : past ≡ before ++ batch_by caller (additions (all_changes before) + 1) items ∷ []
-  pub accepted : update_may_follow (all_changes before)
-      (batch_by caller (additions (all_changes before) + 1) items) ≡ true
-  pub exact : reply ≡ Batched (additions (all_changes before) + 1)
-      (additions (numbered_from (additions (all_changes before) + 1) items)) (length past)
+  pub first : ℕ
+  pub committed : IsCommitted past (batch_by caller first items)
+  pub next : first ≡ additions (all_changes committed.before) + 1
+  pub exact : reply ≡ Batched first (additions (numbered_from first items)) (length past)
 
 -- a new private assertion is named by its id
-abbrev pub reply_of_call : Applied → Reply
-reply_of_call A.Done = Done
-reply_of_call (A.Added k) = PrivateAdded k
+abbrev pub reply_of_call : Call → Session → Reply
+reply_of_call (Assert text) session = PrivateAdded (session.made + 1)
+reply_of_call call session = Done
 
--- an addition, a removal or a batch of this caller is the last update of the history
-abbrev pub IsUpdated : ℕ → List Update → Updating → Reply → Type 0
-IsUpdated caller past (AddText text) reply =
-    (id : ℕ) × IsCommitted past (addition_by caller text id) × (reply ≡ Added id (length past))
-IsUpdated caller past (DropId k) reply = IsCommitted past (removal_by caller k) × (reply ≡ Number (length past))
-IsUpdated caller past (ApplyBlock block) reply =
-    (items : List BatchItem) × (items_of block ≡ Ok items) × IsBatchCommitted caller past (map item_of items) reply
-
--- The reply to an accepted look. The version asked for is retained; LOG's n is no more than the number of updates.
-abbrev pub IsLooked : List Update → State → Look → Reply → Type 0
-IsLooked past old ForOpen reply = reply ≡ Started (old.started + 1) (length past)
-IsLooked past old (ForPin s) reply = reply ≡ Number (length past)
-IsLooked past old (ForPinAt s version) reply =
-    IsSome (retained_version past version) × (reply ≡ PinnedAt version (length past))
-IsLooked past old (ForNews s) reply = IsStandingAnswered past old s reply
-IsLooked past old (ForLog n) reply = (n ≤ length past) × (reply ≡ Log n past)
-
--- what an accepted request of this caller gives after this history
+-- What an accepted request of this caller gives after this history. An update is the last one of the history. A version
+-- that is asked for is retained, and LOG's n is no more than the number of updates.
 abbrev pub Answers : ℕ → List Update → State → Shape → Reply → Type 0
-Answers caller past old (Calls s call) reply =
-    IsSomeAnd (session_of old s) (λ session. reply ≡ reply_of_call (call_answer call session))
-Answers caller past old (Updates update) reply = IsUpdated caller past update reply
-Answers caller past old (Looks look) reply = IsLooked past old look reply
-Answers caller past old (Asks question s names) reply = IsAnswered old question s names reply
+Answers caller past old (Calls s call) reply = IsSomeAnd (session_of old s) (λ x. reply ≡ reply_of_call call x)
+Answers caller past old (Updates (AddText text)) reply =
+    (id : ℕ) × IsCommitted past (addition_by caller text id) × (reply ≡ Added id (length past))
+Answers caller past old (Updates (DropId k)) reply =
+    IsCommitted past (removal_by caller k) × (reply ≡ Number (length past))
+Answers caller past old (Updates (ApplyBlock block)) reply =
+    IsSomeAnd (read_items (items_of block)) (λ items. IsBatchCommitted caller past items reply)
+Answers caller past old (Looks ForOpen) reply = reply ≡ Started (old.started + 1) (length past)
+Answers caller past old (Looks (ForPin s)) reply = reply ≡ Number (length past)
+Answers caller past old (Looks (ForPinAt s version)) reply =
+    IsSome (retained_version past version) × (reply ≡ PinnedAt version (length past))
+Answers caller past old (Looks (ForNews s)) reply = IsSomeAnd (session_of old s)
+    (λ x. IsSomeAnd x.standing (λ query. IsNews (query_at past query) reply))
+Answers caller past old (Looks (ForLog n)) reply = (n ≤ length past) × (reply ≡ Log n past)
+Answers caller past old (Asks question s names) reply = IsSomeAnd (session_of old s)
+    (λ x. IsSomeAnd (values_of names) (λ values. AnswersQuestion question x values reply))
 Answers caller past old (Controls control) reply = reply ≡ Done
 Answers caller past old (AtFault fault) reply = ⊥
 

@@ -1,5 +1,6 @@
 pub mod Shapes
 pub mod Daemon
+pub mod CallFaults
 pub mod Linearized
 pub mod Served
 pub mod Underway

@@ -1,19 +1,17 @@
 -- A caller's requests at legal places of one history (keynoted's own).
 use Rattle.std.specs.Prelude.{ℕ, ◌≡◌, ◌≤◌, ◌<◌, Bool, true, false, List, [], ◌∷◌, ◌++◌, length, map, take, filter_map}
-use Rattle.std.specs.Prelude.{slice_range, Option, Some, None, option_map, Result, Ok, Err}
+use Rattle.std.specs.Prelude.{slice_range, Option, Some, None, option_map}
 use Rattle.kn_reply.specs.declared.refusal.Refusal.{Refusal}
 use Rattle.kn_reply.specs.declared.refusal.Refusal.TheVariants as R
 use Rattle.kn_reply.specs.declared.refusal.ItemRefusal.TheVariants as I
 use Rattle.kn_history.specs.declared.update.Update.{Update}
-use Rattle.kn_history.specs.declared.item.Item.{Item}
 use Rattle.kn_wire.specs.Requests.{Request}
-use Rattle.kn_wire.specs.Items.{BatchItem, items_of}
-use Rattle.kn_reply.specs.Logs.{item_of}
+use Rattle.kn_wire.specs.Items.{items_of}
 use Rattle.kn_reply.specs.Replies.{Reply, Number, Added, Batched, No, NoMemory, reply_text}
 use Rattle.kn_history.specs.Batches.{batch_by}
 use Rattle.kn_history.specs.History.{is_valid_history, addition_by, removal_by, own_updates}
-use Rattle.kn_daemon.specs.Shapes.{Updating, AddText, DropId, ApplyBlock, Shape, Updates, Looks, shape_of}
-use Rattle.kn_daemon.specs.Daemon.{DaemonConfig, State, Permits}
+use Rattle.kn_daemon.specs.Shapes.{AddText, DropId, ApplyBlock, Shape, Updates, Looks, shape_of}
+use Rattle.kn_daemon.specs.Daemon.{DaemonConfig, State, Permits, read_items}
 
 -- a request, its reply, and the place in the history where it stands: after so many updates
 pub record Exchange : Type 0 where
@@ -34,23 +32,13 @@ requests_in exchanges = map (λ e. e.request) exchanges
 abbrev pub texts_in : List Exchange → List (List ℕ)
 texts_in exchanges = map (λ e. reply_text e.reply) exchanges
 
--- the items of a block, where it has their form
-abbrev pub read_items : Result (List BatchItem) ℕ → Option (List Item)
-read_items (Ok items) = Some (map item_of items)
-read_items (Err number) = None
-
--- The caller's update that was asked for and that a reply names: the reply says that it was accepted, and tells the id
--- of an addition, or of a batch's first one.
-abbrev pub accepted_update : ℕ → Updating → Reply → Option Update
-accepted_update caller (AddText text) (Added id version) = Some (addition_by caller text id)
-accepted_update caller (DropId id) (Number version) = Some (removal_by caller id)
-accepted_update caller (ApplyBlock block) (Batched first added version) =
-    option_map (batch_by caller first) (read_items (items_of block))
-accepted_update caller update reply = None
-
--- the caller's update that a request of this shape and its reply name, if they name one
+-- The caller's update that a request of this shape asks for and its reply names: the reply says that it was accepted,
+-- and tells the id of an addition, or of a batch's first one.
 abbrev pub update_by : ℕ → Shape → Reply → Option Update
-update_by caller (Updates update) reply = accepted_update caller update reply
+update_by caller (Updates (AddText text)) (Added id version) = Some (addition_by caller text id)
+update_by caller (Updates (DropId id)) (Number version) = Some (removal_by caller id)
+update_by caller (Updates (ApplyBlock block)) (Batched first added version) =
+    option_map (batch_by caller first) (read_items (items_of block))
 update_by caller shape reply = None
 
 abbrev pub update_of : ℕ → Exchange → Option Update
@@ -66,25 +54,15 @@ abbrev pub InOrder : ℕ → ℕ → List Exchange → ℕ → Type 0
 InOrder caller low [] high = low ≤ high
 InOrder caller low (e ∷ es) high = IsBehind (update_of caller e) low e.place × InOrder caller e.place es high
 
--- What of an update, or of a look, the history refuses, and not the state. What isn't there and limits are the
--- history's
--- refusals of an update, and else the state's.
-abbrev pub history_refuses_update : Refusal → Bool
-history_refuses_update R.Unknown = true
-history_refuses_update (R.Limit word count) = true
-history_refuses_update (R.Item item I.Unknown) = true
-history_refuses_update (R.Item item (I.Limit word count)) = true
-history_refuses_update refusal = false
-
-abbrev pub history_refuses_look : Refusal → Bool
-history_refuses_look (R.Retained newest) = true
-history_refuses_look (R.Ahead newest) = true
-history_refuses_look refusal = false
-
--- a request of this shape is refused by the history, so the refusal depends on the place
+-- A request of this shape is refused by the history, so the refusal depends on the place. What isn't there and limits
+-- are the history's refusals of an update, and else the state's.
 abbrev pub is_by_history : Shape → Refusal → Bool
-is_by_history (Updates update) refusal = history_refuses_update refusal
-is_by_history (Looks look) refusal = history_refuses_look refusal
+is_by_history (Updates update) R.Unknown = true
+is_by_history (Updates update) (R.Limit word count) = true
+is_by_history (Updates update) (R.Item item I.Unknown) = true
+is_by_history (Updates update) (R.Item item (I.Limit word count)) = true
+is_by_history (Looks look) (R.Retained newest) = true
+is_by_history (Looks look) (R.Ahead newest) = true
 is_by_history shape refusal = false
 
 -- the history at the place is changed or looked at

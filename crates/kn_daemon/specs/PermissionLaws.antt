@@ -16,7 +16,7 @@ use Rattle.kn_reply.specs.Replies.{Reply, Done, Started, Number, Added, Batched,
 use Rattle.kn_daemon.specs.declared.ended.Ended.{Ended}
 use Rattle.kn_daemon.specs.Shapes.{Updating, AddText, ApplyBlock, Look, ForOpen, ForPin, ForPinAt, ForLog}
 use Rattle.kn_daemon.specs.Shapes.{ShowSecret, Shape, Calls, Updates, Looks, Controls}
-use Rattle.kn_daemon.specs.Daemon.{DaemonConfig, State, session_of, item_refusal, own_refusal, placed_refusal, IsLooked}
+use Rattle.kn_daemon.specs.Daemon.{DaemonConfig, State, session_of, item_refusal, own_refusal, placed_refusal, Answers}
 use Rattle.kn_daemon.specs.Daemon.{Permits}
 use Rattle.kn_daemon.specs.Linearized.{requests_in}
 use Rattle.kn_daemon.specs.Served.{IsServed}
@@ -94,8 +94,8 @@ UnwatchEnds = (g : DaemonConfig) (caller : ℕ) (past : List Update) (old : Stat
 
 -- A look that the history refuses isn't answered.
 abbrev pub RefusedLookIsNotReported : Type 0
-RefusedLookIsNotReported = (past : List Update) (old : State) (look : Look) (refusal : Refusal) (reply : Reply)
-    → placed_refusal past (Looks look) ≡ Some refusal → IsLooked past old look reply → ⊥
+RefusedLookIsNotReported = (caller : ℕ) (past : List Update) (old : State) (look : Look) (refusal : Refusal)
+    (reply : Reply) → placed_refusal past (Looks look) ≡ Some refusal → Answers caller past old (Looks look) reply → ⊥
 
 -- The history ends with an update of so many additions. The first of them has this id, which is the next one behind
 -- what is before the update, or would have it.

@@ -9,16 +9,12 @@ use Rattle.kn_wire.specs.Requests.{Request, Bye, Faulty, Takes}
 use Rattle.kn_wire.specs.Requests.{first_of}
 use Rattle.kn_daemon.specs.declared.ended.Ended.{Ended}
 use Rattle.kn_daemon.specs.declared.ended.Ended.TheVariants as E
-use Rattle.kn_daemon.specs.Shapes.{Leave, Shape, Controls, shape_of}
 use Rattle.kn_daemon.specs.Daemon.{DaemonConfig, State, first_state}
 use Rattle.kn_daemon.specs.Linearized.{Exchange, Along, IsLinearized, requests_in, texts_in}
 
-abbrev pub is_bye_shape : Shape → Bool
-is_bye_shape (Controls Leave) = true
-is_bye_shape shape = false
-
 abbrev pub is_bye : Request → Bool
-is_bye request = is_bye_shape (shape_of request)
+is_bye Bye = true
+is_bye request = false
 
 -- a block that is refused
 abbrev pub is_block : Request → Bool

@@ -2,7 +2,7 @@
 -- changes, is said by its shape.
 use Rattle.std.specs.Prelude.{ℕ, ◌≡◌, ◌≤◌, ⊤, true, List, length}
 use Rattle.kn_base.specs.declared.limits.TheConstants.{ASSERTION_BYTES}
-use Rattle.kn_session.specs.Calls.{Call, call_of, asserted}
+use Rattle.kn_session.specs.Calls.{Call, call_of, asserted_text}
 use Rattle.kn_session.specs.Calls as C
 use Rattle.kn_wire.specs.declared.fault.WireFault.{WireFault}
 use Rattle.kn_wire.specs.Hex.{bytes_of_hex}
@@ -96,7 +96,7 @@ shape_in_code S.Bye = Controls Leave
 -- its parts are of their form: digits are hexadecimal digits, an even number of them, and no text of an assertion and
 -- no block is too long
 abbrev pub IsFormed : Asked → Type 0
-IsFormed (S.Call s call) = length (asserted (call_of call)) ≤ ASSERTION_BYTES
+IsFormed (S.Call s call) = length (asserted_text (call_of call)) ≤ ASSERTION_BYTES
 IsFormed (S.SetHex s name digits) = is_hex digits.now ≡ true
 IsFormed S.Open = ⊤
 IsFormed (S.Pin s) = ⊤

@@ -1,11 +1,10 @@
 -- A question that is answered is kept, and another one isn't.
-use Rattle.std.proofs.Common.{◌≡◌, ℕ, Option, Some, None, List, refl, ap}
+use Rattle.std.proofs.Common.{◌≡◌, ℕ, Some, List, ap}
 use Rattle.kn_env.specs.Values.{values_of}
 use Rattle.kn_history.specs.declared.update.Update.{Update}
 use Rattle.kn_session.specs.Sessions.{Session, OpenSessions, session_in, watch_with}
 use Rattle.kn_session.specs.Connection.{with_open_session}
-use Rattle.kn_daemon.specs.Shapes.{Asks, WithProof, ToKeep}
-use Rattle.kn_daemon.specs.Played.{AsksOf}
+use Rattle.kn_daemon.specs.Shapes.{Asks, ToKeep}
 use Rattle.kn_play.specs.Playing.{state_of_sessions, applied}
 
 pub asked-kept : (history : List Update) (old new : OpenSessions) (s : ℕ) (names : List ℕ) (session : Session)

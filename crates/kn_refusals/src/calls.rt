@@ -3,8 +3,8 @@ ghost use Rattle.std.specs.Prelude.{◌≡◌, ◌<◌, ◌^◌};
 ghost use Rattle.kn_fields.specs.Numbers.{fault_place};
 ghost use Rattle.kn_session.specs.Calls.{place_of_fault};
 ghost use Rattle.kn_reply.specs.Replies.{reply_of};
-ghost use Rattle.kn_daemon.specs.Daemon.{refusal_of_fault, refusal_of_text, refusal_of_session, refusal_of_call};
-ghost use Rattle.kn_daemon.specs.Daemon.{reply_of_call};
+ghost use Rattle.kn_daemon.specs.Daemon.{refusal_of_fault, refusal_at_text, refusal_of_session};
+ghost use Rattle.kn_daemon.specs.CallFaults.{refusal_of_call_fault, reply_of_applied};
 ghost use Rattle.kn_refusals.specs.Refusals.{refusal_of_values};
 
 use kn_assert::ReadFault;
@@ -28,7 +28,7 @@ pub fn refusal_of_fault(fault: WireFault) -> Refusal
 /// The refusal of a text with this fault; None when out of memory.
 pub fn refusal_of_text(fault: &ReadFault) -> Option<Refusal>
     requires { fault_place fault.now < 2 ^ 32 }
-    ensures { result ≡ refusal_of_text fault.now }
+    ensures { result ≡ refusal_at_text Refusal.Read fault.now }
 {
     let place = fault.place() as u32;
     match fault.number() {
@@ -49,10 +49,10 @@ pub fn refusal_of_values(fault: ValuesFault) -> Option<Refusal>
     }
 }
 
-/// The refusal of a call of a session; None when out of memory.
-pub fn refusal_of_call(fault: &CallFault) -> Option<Refusal>
+/// The refusal that a fault of a session's call is; None when out of memory.
+pub fn refusal_of_call_fault(fault: &CallFault) -> Option<Refusal>
     requires { place_of_fault fault.now < 2 ^ 32 }
-    ensures { result ≡ refusal_of_call fault.now }
+    ensures { result ≡ refusal_of_call_fault fault.now }
 {
     match fault {
         CallFault::Text { fault } => refusal_of_text(fault),
@@ -83,7 +83,7 @@ pub fn refusal_of_session(fault: SessionFault) -> Option<Refusal>
 
 /// What an accepted call of a session is replied.
 pub fn reply_of_applied(applied: Applied) -> Reply<'static>
-    ensures { reply_of result ≡ reply_of_call applied }
+    ensures { reply_of result ≡ reply_of_applied applied }
 {
     match applied {
         Applied::Done => Reply::Ok,

@@ -6,8 +6,8 @@ mod calls;
 mod updates;
 
 pub use calls::{
-    refusal_of_call, refusal_of_fault, refusal_of_session, refusal_of_text, refusal_of_values,
-    reply_of_applied,
+    refusal_of_call_fault, refusal_of_fault, refusal_of_session, refusal_of_text,
+    refusal_of_values, reply_of_applied,
 };
 pub use updates::{
     item_refusal_of_text, refusal_as_request, refusal_of_batch, refusal_of_block, refusal_of_item,

@@ -2,6 +2,7 @@
 use Rattle.std.proofs.Common.{◌≡◌, ℕ, ◌+◌, ◌<◌, false, List, [], ◌∷◌, ◌++◌, length, map, take, drop, get_or, refl, sym}
 use Rattle.std.proofs.Common.{ap, ◌∙◌, subst, arith, Option, Some, None, inl, inr}
 use Rattle.std.specs.Prelude.{◌⊎◌, ◌==◌, option_map}
+use Rattle.std.specs.Option.{option_or}
 use Rattle.std.proofs.lemmas.Bool.Decides.{nat_tests}
 use Rattle.std.proofs.lemmas.List.{drop_more, take_more, take-append-drop, length-map, length-take-le, map-append}
 use Rattle.kn_assert.specs.Reading.{assertion_of, fault_of}
@@ -20,7 +21,7 @@ use Rattle.kn_reply.specs.declared.refusal.Refusal.TheVariants as R
 use Rattle.kn_reply.specs.declared.refusal.ItemRefusal.{ItemRefusal}
 use Rattle.kn_reply.specs.declared.refusal.ItemRefusal.TheVariants as I
 use Rattle.kn_reply.specs.Logs.{item_of}
-use Rattle.kn_daemon.specs.Daemon.{DaemonConfig, item_refusal, refusal_at_text, refusal_at_verdict, found_item}
+use Rattle.kn_daemon.specs.Daemon.{DaemonConfig, item_refusal, refusal_at_text, refusal_at_verdict}
 use Rattle.kn_daemon.specs.Daemon.{refusal_from}
 use Rattle.kn_daemon.proofs.Reading.{fault-refuses_item, reading-admits_item}
 use Rattle.kn_serve.specs.Admission.{Admits, RefusesItem, AdmitsAll, RefusesOneItem}
@@ -80,10 +81,11 @@ behind_admitted g number [] rest e =
 behind_admitted g number (item ∷ front) rest e =
     by (item_refusal g item) e (λ none. behind_admitted g (number + 1) front rest none)
   where
-    by : (o : Option ItemRefusal) → found_item number o (refusal_from g (number + 1) front) ≡ None →
+    by : (o : Option ItemRefusal) →
+        option_or (option_map (R.Item number) o) (refusal_from g (number + 1) front) ≡ None →
         (refusal_from g (number + 1) front ≡ None →
         refusal_from g (number + 1) (front ++ rest) ≡ refusal_from g (number + 1 + length front) rest) →
-        found_item number o (refusal_from g (number + 1) (front ++ rest))
+        option_or (option_map (R.Item number) o) (refusal_from g (number + 1) (front ++ rest))
         ≡ refusal_from g (number + length (item ∷ front)) rest
     by None e later =
         let more : number + 1 + length front ≡ number + length (item ∷ front) = omega arith in
@@ -95,7 +97,7 @@ pub admits_more : (verdict : List ℕ → Assertion → ℕ) (front : List Batch
     AdmitsAll verdict front → Admits verdict item → AdmitsAll verdict (front ++ item ∷ [])
 admits_more verdict front item before here = λ g same.
     behind_admitted g 1 front (item ∷ []) (before g same)
-    ∙ ap (λ (o : Option ItemRefusal). found_item (1 + length front) o None) (here g same)
+    ∙ ap (λ (o : Option ItemRefusal). option_or (option_map (R.Item (1 + length front)) o) None) (here g same)
 
 -- behind those that are admitted one is refused
 pub refuses_next : (verdict : List ℕ → Assertion → ℕ) (front rest : List BatchItem) (item : BatchItem) (number : ℕ)
@@ -108,7 +110,8 @@ refuses_next verdict front rest item number None told before at (inr refused) is
 refuses_next verdict front rest item number (Some inner) told before at (inr refused) is = inr (λ g same.
     let here : 1 + length front ≡ number = omega (arith, at) in
     behind_admitted g 1 front (item ∷ rest) (before g same)
-    ∙ ap (λ (o : Option ItemRefusal). found_item (1 + length front) o (refusal_from g (1 + length front + 1) rest))
+    ∙ ap (λ (o : Option ItemRefusal).
+    option_or (option_map (R.Item (1 + length front)) o) (refusal_from g (1 + length front + 1) rest))
     (refused g same)
     ∙ ap (λ (n : ℕ). Some (R.Item n inner)) here ∙ sym is)
 

@@ -1,5 +1,5 @@
 -- Updates of several changes.
-use Rattle.std.proofs.Common.{◌≡◌, ℕ, Bool, true, List, [], ◌∷◌, ◌++◌, length, map, refl, sym, ap, ◌∙◌}
+use Rattle.std.proofs.Common.{◌≡◌, ℕ, Bool, true, List, [], ◌∷◌, length, map, refl, sym, ap, ◌∙◌}
 use Rattle.std.proofs.Common.{Option, Some, None, subst, inl, inr}
 use Rattle.std.specs.Prelude.{Result, Ok, option_and_then, option_map, option_to_list}
 use Rattle.kn_trees.specs.declared.assertion.Assertion.{Assertion}
@@ -9,8 +9,7 @@ use Rattle.kn_history.specs.declared.item.Item.{Item}
 use Rattle.kn_history.specs.declared.fault.StoreFault.{StoreFault}
 use Rattle.kn_history.specs.declared.fault.BatchFault.{BatchFault}
 use Rattle.kn_history.specs.declared.fault.BatchFault.TheVariants as B
-use Rattle.kn_history.specs.History.{all_changes, additions, update_may_follow}
-use Rattle.kn_history.specs.Batches.{refusal_of_items, numbered_from, batch_by}
+use Rattle.kn_history.specs.Batches.{batch_by}
 use Rattle.kn_wire.specs.declared.items.BatchText.{BatchText}
 use Rattle.kn_wire.specs.declared.items.BatchText.TheVariants as T
 use Rattle.kn_wire.specs.Items.{BatchItem, items_of}
@@ -21,9 +20,9 @@ use Rattle.kn_reply.specs.Logs.{item_of}
 use Rattle.kn_reply.specs.Replies.{Batched, reply_text}
 use Rattle.kn_daemon.specs.Shapes.{Shape, Updates, ApplyBlock}
 use Rattle.kn_daemon.specs.Daemon.{DaemonConfig, State, IsBatchCommitted, own_refusal, placed_refusal}
-use Rattle.kn_daemon.specs.Daemon.{refusal_of_update}
-use Rattle.kn_daemon.specs.Daemon.{refusal_of_block, refusal_of_batch, refusal_of_item_fault}
-use Rattle.kn_daemon.specs.Linearized.{update_by, read_items}
+use Rattle.kn_daemon.specs.Daemon.{refusal_of_block, refusal_of_batch, refusal_of_item_fault, read_items}
+use Rattle.kn_daemon.specs.Linearized.{update_by}
+use Rattle.kn_daemon.proofs.Answered.{answers-batch}
 use Rattle.kn_registry.specs.declared.answer.Batched.{Batched as BatchDone}
 use Rattle.kn_registry.specs.Passes.{PassSeen, Looks as PassLooks, Batches, RefusesItems}
 use Rattle.kn_serve.specs.Admission.{AdmitsAll, RefusesOneItem}
@@ -47,7 +46,7 @@ batch_unread g whole l l' now block fault told admin why is prints =
         Prints whole (reply_text (refused_reply (refusal_of_batch_text f))) l l' →
         Tells g (batches block) whole now now l l'
     by (T.Form item) e p =
-        let own : refusal_of_update g (ApplyBlock block) ≡ Some (R.Batch item) =
+        let own : refusal_of_block g (items_of block) ≡ Some (R.Batch item) =
         ap (λ (r : Result (List BatchItem) ℕ). refusal_of_block g r) e in
         told_refused g (batches block) whole now l l' (R.Batch item) (rw admin own) p
     by T.NoMemory e p = told_memory g (batches block) whole now l l' refl p
@@ -57,7 +56,7 @@ module _ (g : DaemonConfig) (now : State) (block : List ℕ) (items : List Batch
   -- what the state refuses of a block that is made of these items
   own_of_items : (o : Option Refusal) → refusal_of_block g (Ok items) ≡ o → own_refusal g now (batches block) ≡ o
   own_of_items o is =
-      let own : refusal_of_update g (ApplyBlock block) ≡ o =
+      let own : refusal_of_block g (items_of block) ≡ o =
       ap (λ (r : Result (List BatchItem) ℕ). refusal_of_block g r) read ∙ is in
       rw admin own
 
@@ -91,7 +90,13 @@ module _ (g : DaemonConfig) (whole : Bool) (v w : PassSeen) (l l' : LinkSeen) (n
       let c = b.commits in
       handled_by g (batches block) whole before after (Batched batched.first batched.added batched.version)
       c.more (batch_by v.number batched.first items ∷ []) (length w.seen ∷ []) c.moves named
-      (record { accepted = own; answered = (read, reads, subst committed seen at_first); next = refl }) refl
+      (record {
+        accepted = own;
+        answered =
+            answers-batch v.number w.seen now block (Batched batched.first batched.added batched.version)
+            (record { items = read; read = reads; batch = subst committed seen at_first });
+        next = refl;
+      }) refl
       (unrefused (own_refusal g now (batches block)) own) prints
     where
       committed : List Item → Type 0
@@ -108,12 +113,10 @@ module _ (g : DaemonConfig) (whole : Bool) (v w : PassSeen) (l l' : LinkSeen) (n
       at_first =
           let c = b.commits in
           record {
-            before = c.before;
-            ends = subst (λ (n : ℕ). w.seen ≡ c.before ++ batch_by v.number n items ∷ []) b.first c.ends;
-            accepted = subst (λ (n : ℕ). update_may_follow (all_changes c.before) (batch_by v.number n items) ≡ true)
-                b.first c.follows;
-            exact = rw (c.at, b.added)
-                (ap (λ (n : ℕ). Batched n (additions (numbered_from n items)) (length w.seen)) b.first);
+            first = batched.first;
+            committed = record { before = c.before; ends = c.ends; accepted = c.follows };
+            next = b.first;
+            exact = rw (c.at, b.added) refl;
           }
 
   -- the history refuses an item, or memory ran out
@@ -129,19 +132,14 @@ module _ (g : DaemonConfig) (whole : Bool) (v w : PassSeen) (l l' : LinkSeen) (n
       at_item looks (Some refusal) placed p =
           refused_handled g (batches block) whole before after refusal refl looks own placed p
 
-      found_by : List Item → Option Refusal
-      found_by changes =
-          option_and_then (λ found. refusal_of_item_fault found.0 found.1)
-          (refusal_of_items (all_changes w.seen) changes)
-
       by : (f : BatchFault) → RefusesItems v w items f →
           Prints whole (reply_text (refused_reply (refusal_of_batch_fault f))) l l' →
           Handles g (batches block) whole before after
       by B.NoMemory stays p = lacking_handled g (batches block) whole before after refl stays own refl p
       by (B.Item number f) r p =
           let placed : placed_refusal w.seen (batches block) ≡ refusal_of_item_fault number f =
-          ap (λ (x : Result (List BatchItem) ℕ). refusal_of_batch w.seen x) reads
-          ∙ ap found_by (sym seen)
+          ap (λ (x : Result (List BatchItem) ℕ). option_and_then (refusal_of_batch w.seen) (read_items x)) reads
+          ∙ ap (refusal_of_batch w.seen) (sym seen)
           ∙ ap (λ (o : Option (ℕ × StoreFault)).
           option_and_then (λ found. refusal_of_item_fault found.0 found.1) o) r.refusal_is in
           at_item r.looks (refusal_of_item_fault number f) placed p

@@ -13,9 +13,10 @@ use Rattle.kn_session.specs.Calls.{Call, call_fault_in, call_answer, lacks_memor
 use Rattle.kn_reply.specs.declared.refusal.Refusal.{Refusal}
 use Rattle.kn_reply.specs.Replies.{reply_text}
 use Rattle.kn_daemon.specs.Shapes.{Calls}
-use Rattle.kn_daemon.specs.Daemon.{DaemonConfig, State, session_of, own_refusal, refusal_of_call, reply_of_call}
+use Rattle.kn_daemon.specs.Daemon.{DaemonConfig, State, session_of, own_refusal, reply_of_call}
+use Rattle.kn_daemon.specs.CallFaults.{refusal_of_call_fault, reply_of_applied}
 use Rattle.kn_daemon.specs.Linearized.{update_by, is_placed}
-use Rattle.kn_daemon.proofs.Faults.{untold-lacks, lacking-untold}
+use Rattle.kn_daemon.proofs.Faults.{untold-lacks, lacking-untold, call-refusal, call-reply}
 use Rattle.kn_serve.specs.Handling.{HasRoom, Tells, refused_reply}
 use Rattle.kn_serve.proofs.HandlingLaws.{is_acceptance, told_refused, told_memory, told_done}
 
@@ -37,17 +38,17 @@ private_few state s room x e = below x.made room.0 (2 ^ 31) (room.2.made s x e) 
     below : (m n k : ℕ) → m ≤ n → n < k → m < k
     below m n k a b = omega arith
 
-acceptance : (applied : Applied) → is_acceptance (reply_of_call applied) ≡ true
+acceptance : (applied : Applied) → is_acceptance (reply_of_applied applied) ≡ true
 acceptance A.Done = refl
 acceptance (A.Added k) = refl
 
 -- such a reply is the same wherever it stands
 no_update : (applied : Applied) (s caller : ℕ) (call : Call) →
-    update_by caller (Calls s call) (reply_of_call applied) ≡ None
+    update_by caller (Calls s call) (reply_of_applied applied) ≡ None
 no_update A.Done s caller call = refl
 no_update (A.Added k) s caller call = refl
 
-unplaced : (applied : Applied) (s : ℕ) (call : Call) → is_placed (Calls s call) (reply_of_call applied) ≡ false
+unplaced : (applied : Applied) (s : ℕ) (call : Call) → is_placed (Calls s call) (reply_of_applied applied) ≡ false
 unplaced A.Done s call = refl
 unplaced (A.Added k) s call = refl
 
@@ -57,40 +58,44 @@ module _ (g : DaemonConfig) (a b : OpenSessions) (is_admin : Bool) (s : ℕ) (ca
   TellsAfter x = Tells g (Calls s call) whole (state_with a is_admin) (state_with x is_admin) l l'
 
   pub call_done : (applied : Applied) → Accepts a b s call applied →
-      Prints whole (reply_text (reply_of_call applied)) l l' → TellsAfter b
+      Prints whole (reply_text (reply_of_applied applied)) l l' → TellsAfter b
   call_done applied k prints =
       subst TellsAfter (sym k.makes)
       (told_done g (Calls s call) whole (state_with a is_admin) l l' (state_with (with_call a s call) is_admin)
-      (reply_of_call applied) (acceptance applied) accepted
+      (reply_of_applied applied) (acceptance applied) accepted
       (λ caller past. answered (session_in a.sessions s) k.found) (λ past. refl)
       (λ caller. no_update applied s caller call) (unplaced applied s call) prints)
     where
       accepted : own_refusal g (state_with a is_admin) (Calls s call) ≡ None
       accepted =
-          ap (λ (x : Option Session). option_and_then refusal_of_call (call_fault_in s x call)) k.found
-          ∙ ap (λ (f : Option CallFault). option_and_then refusal_of_call f) k.no_fault
+          call-refusal g (state_with a is_admin) s call
+          ∙ ap (λ (x : Option Session). option_and_then refusal_of_call_fault (call_fault_in s x call)) k.found
+          ∙ ap (λ (f : Option CallFault). option_and_then refusal_of_call_fault f) k.no_fault
 
       answered : (found : Option Session) → found ≡ Some k.session →
-          IsSomeAnd found (λ session. reply_of_call applied ≡ reply_of_call (call_answer call session))
+          IsSomeAnd found (λ session. reply_of_applied applied ≡ reply_of_call call session)
       answered None e = absurd (cc (e))
       answered (Some session) e =
           let same : session ≡ k.session = cc in
-          ap reply_of_call (k.gives ∙ ap (call_answer call) (sym same))
+          ap reply_of_applied (k.gives ∙ ap (call_answer call) (sym same)) ∙ sym (call-reply call session)
 
   pub call_refused : (fault : CallFault) (told : Option Refusal) → Refuses a b s call fault →
-      told ≡ refusal_of_call fault → Prints whole (reply_text (refused_reply told)) l l' → TellsAfter b
+      told ≡ refusal_of_call_fault fault → Prints whole (reply_text (refused_reply told)) l l' → TellsAfter b
   call_refused fault told k is prints = subst TellsAfter (sym k.same) (by told is prints)
     where
-      due : (refusal : Refusal) → Some refusal ≡ refusal_of_call fault →
+      due : (refusal : Refusal) → Some refusal ≡ refusal_of_call_fault fault →
           own_refusal g (state_with a is_admin) (Calls s call) ≡ Some refusal
       due refusal e = from k.why
         where
           from : (lacks_memory fault ≡ true) ⊎ (call_fault_in s (session_in a.sessions s) call ≡ Some fault) →
               own_refusal g (state_with a is_admin) (Calls s call) ≡ Some refusal
           from (inl memory) = absurd (let none = lacking-untold fault memory in cc (e, none))
-          from (inr why) = ap (λ (f : Option CallFault). option_and_then refusal_of_call f) why ∙ sym e
+          from (inr why) =
+              call-refusal g (state_with a is_admin) s call
+              ∙ ap (λ (f : Option CallFault). option_and_then refusal_of_call_fault f) why
+              ∙ sym e
 
-      by : (o : Option Refusal) → o ≡ refusal_of_call fault →
+      by : (o : Option Refusal) → o ≡ refusal_of_call_fault fault →
           Prints whole (reply_text (refused_reply o)) l l' → TellsAfter a
       by None e p =
           told_memory g (Calls s call) whole (state_with a is_admin) l l'

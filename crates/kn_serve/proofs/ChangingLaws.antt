@@ -20,9 +20,8 @@ use Rattle.kn_reply.specs.declared.refusal.LimitWord.TheVariants as W
 use Rattle.kn_reply.specs.Replies.{Number, Added, No, reply_text}
 use Rattle.kn_daemon.specs.Shapes.{Updating, Updates, AddText, DropId}
 use Rattle.kn_daemon.specs.Daemon.{DaemonConfig, State, own_refusal, placed_refusal, refusal_of_store}
-use Rattle.kn_daemon.specs.Daemon.{refusal_of_update}
-use Rattle.kn_daemon.specs.Daemon.{refusal_at_reading, refusal_at_verdict}
-use Rattle.kn_daemon.specs.Daemon.{item_refusal}
+use Rattle.kn_daemon.specs.Daemon.{refusal_at_reading, refusal_at_verdict, item_refusal}
+use Rattle.kn_daemon.proofs.Admins.{others-refused}
 use Rattle.kn_registry.specs.Passes.{PassSeen, Adds, Removes, IsRefused, Refuses, RefusesText, RefusesId}
 use Rattle.kn_serve.specs.Admission.{Admits, RefusesItem}
 use Rattle.kn_refusals.specs.Refusals.{request_refusal}
@@ -104,15 +103,19 @@ module _ (g : DaemonConfig) (whole : Bool) (v w : PassSeen) (l l' : LinkSeen) (n
 pub update_unshown : (g : DaemonConfig) (whole : Bool) (l l' : LinkSeen) (now : State) (change : Updating) →
     now.is_admin ≡ false → Prints whole (reply_text (No R.Admin)) l l' → Tells g (Updates change) whole now now l l'
 update_unshown g whole l l' now change out prints =
-    told_refused g (Updates change) whole now l l' R.Admin (rw out refl) prints
+    told_refused g (Updates change) whole now l l' R.Admin (others-refused g now change 0 out).0 prints
 
 pub drop_shown : (g : DaemonConfig) (now : State) (id : ℕ) → now.is_admin ≡ true →
     own_refusal g now (Updates (DropId id)) ≡ None
 drop_shown g now id admin = rw admin refl
 
--- what refuses a text is what refuses the item that adds it
+-- what refuses a text to an administrator
+abbrev text_refusal : DaemonConfig → List ℕ → Option Refusal
+text_refusal g text = refusal_at_reading R.Read (reading_of text) (λ a. refusal_at_verdict R.Auth (g.verdict text a))
+
+-- it is what refuses the item that adds it
 refusal_of_addition : (g : DaemonConfig) (text : List ℕ) →
-    refusal_of_update g (AddText text) ≡ option_map request_refusal (item_refusal g (ItemText text))
+    text_refusal g text ≡ option_map request_refusal (item_refusal g (ItemText text))
 refusal_of_addition g text = by (reading_of text)
   where
     at_verdict : (number : ℕ) (b : Bool) →
@@ -148,7 +151,7 @@ module _ (g : DaemonConfig) (whole : Bool) (l l' : LinkSeen) (now : State) (text
       by None refused p = told_memory g (Updates (AddText text)) whole now l l' refl p
       by (Some inner) (inl none) p = absurd (cc none)
       by (Some inner) (inr refused) p =
-          let own : refusal_of_update g (AddText text) ≡ Some (request_refusal inner) =
+          let own : text_refusal g text ≡ Some (request_refusal inner) =
           refusal_of_addition g text ∙ ap (option_map request_refusal) (refused g grounds) in
           told_refused g (Updates (AddText text)) whole now l l' (request_refusal inner) (rw admin own) p
 
@@ -158,7 +161,7 @@ module _ (g : DaemonConfig) (whole : Bool) (l l' : LinkSeen) (now : State) (text
       Handles g (Updates (AddText ready)) whole (in_state now v l) (in_state now w l')) →
       Handles g (Updates (AddText text)) whole (in_state now v l) (in_state now w l')
   added_as v w ready admitted same handled =
-      let none : refusal_of_update g (AddText text) ≡ None =
+      let none : text_refusal g text ≡ None =
       refusal_of_addition g text ∙ ap (option_map request_refusal) (admitted g grounds) in
       let own : own_refusal g now (Updates (AddText text)) ≡ None = rw admin none in
       let handled_at : List ℕ → Type 0 =

@@ -17,7 +17,8 @@ use Rattle.kn_reply.specs.declared.refusal.LimitWord.TheVariants as W
 use Rattle.kn_reply.specs.Replies.{Started, Number, PinnedAt, No, NoMemory, reply_text}
 use Rattle.kn_daemon.specs.Shapes.{Shape, Looks, ForOpen, ForPin, ForPinAt}
 use Rattle.kn_daemon.specs.Daemon.{DaemonConfig, State, session_of, own_refusal, placed_refusal, refuse_if, pinned_to}
-use Rattle.kn_daemon.specs.Daemon.{refusal_by}
+use Rattle.kn_daemon.specs.Daemon.{refusal_by, in_session}
+use Rattle.kn_daemon.proofs.Faults.{session-refusal}
 use Rattle.kn_registry.specs.declared.answer.PinFault.{PinFault}
 use Rattle.kn_registry.specs.declared.answer.PinFault.TheVariants as P
 use Rattle.kn_registry.specs.Passes.{PassSeen, Looks as PassLooks, Stays, RefusesVersion}
@@ -44,6 +45,11 @@ open_room : (g : DaemonConfig) (now : State) (count : ℕ) → count ≡ length 
 open_room g now count same few =
     let test : nat_le SESSIONS (length now.sessions) ≡ false = grind (arith, nat_tests, same, few) in
     rw test refl
+
+-- a session that has no fault is refused nothing
+open_unrefused : (s : ℕ) (found : Option Session) → fault_in s found (λ x. None) ≡ None →
+    in_session found (λ x. None) ≡ None
+open_unrefused s found accepted = sym (session-refusal s found (λ x. None)) ∙ ap refusal_by accepted
 
 -- Where the pass moved. The state stays as it is.
 module _ (g : DaemonConfig) (whole : Bool) (v w : PassSeen) (l l' : LinkSeen) (now : State) where
@@ -125,10 +131,10 @@ module _ (g : DaemonConfig) (whole : Bool) (v w : PassSeen) (l l' : LinkSeen) (a
         Prints whole (reply_text (Number version)) l l' → Changes (Looks (ForPin s))
     pin_done s version made looks seen at accepted after prints =
         let pinned : List Update → State = λ u. state_with (with_open_session a s (pin_at u)) is_admin in
-        looked_handled g (Looks (ForPin s)) whole (in_state old v l) (in_state new w l') (Number version) looks
-        (ap refusal_by accepted) refl
+        let own = open_unrefused s (session_in a.sessions s) accepted in
+        looked_handled g (Looks (ForPin s)) whole (in_state old v l) (in_state new w l') (Number version) looks own refl
         (record {
-          accepted = ap refusal_by accepted;
+          accepted = own;
           answered = rw (at, seen) refl;
           next = ap (λ (x : OpenSessions). state_with x is_admin) after ∙ ap pinned seen;
         }) prints
@@ -139,10 +145,11 @@ module _ (g : DaemonConfig) (whole : Bool) (v w : PassSeen) (l l' : LinkSeen) (a
         fault_in s (session_in a.sessions s) (λ x. None) ≡ None → b ≡ with_open_session a s (pin_at made) →
         Prints whole (reply_text (PinnedAt version newest)) l l' → Changes (Looks (ForPinAt s version))
     pin_at_done s version newest made looks retained at accepted after prints =
+        let own = open_unrefused s (session_in a.sessions s) accepted in
         looked_handled g (Looks (ForPinAt s version)) whole (in_state old v l) (in_state new w l')
-        (PinnedAt version newest) looks (ap refusal_by accepted) refl
+        (PinnedAt version newest) looks own refl
         (record {
-          accepted = ap refusal_by accepted;
+          accepted = own;
           answered = (ap is_some retained, ap (PinnedAt version) at);
           next = ap (λ (x : OpenSessions). state_with x is_admin) after ∙ ap (pinned_to old s) (sym retained);
         }) prints

@@ -17,9 +17,8 @@ use Rattle.kn_wire.specs.Feeding.{Held}
 use Rattle.kn_daemon.specs.Shapes.{Shape, Calls, Updates, Looks, Asks, Controls, AtFault, ForOpen, ForPin, ForPinAt}
 use Rattle.kn_daemon.specs.Shapes.{ForNews, ForLog, Look, Question, WithProof, WithCritical, ToKeep, Control}
 use Rattle.kn_daemon.specs.Shapes.{ShowSecret, Leave, shape_of}
-use Rattle.kn_daemon.specs.Daemon.{DaemonConfig, State, first_state, pinned_to, state_after_look, state_keeping}
-use Rattle.kn_daemon.specs.Daemon.{state_after_question}
-use Rattle.kn_daemon.specs.Daemon.{state_after_control, state_after, Does, Permits}
+use Rattle.kn_daemon.specs.Daemon.{DaemonConfig, State, first_state, pinned_to, state_keeping, state_after, Does}
+use Rattle.kn_daemon.specs.Daemon.{Permits}
 use Rattle.kn_daemon.specs.Linearized.{Exchange, Along}
 use Rattle.kn_daemon.specs.Underway.{IsUnderway}
 use Rattle.kn_serve.specs.KeptBases.{IsFirstOf, IsPinned, ArePinned}
@@ -122,7 +121,7 @@ moved-pinned h n None = tt
 moved-pinned h n (Some query) = taken-so n h
 
 pinned-looked : (h : List Update) (n : ℕ) (state : State) (look : Look) → AllPinned h state.sessions
-    → AllPinned h (state_after_look (take n h) state look).sessions
+    → AllPinned h (state_after (take n h) state (Looks look)).sessions
 pinned-looked h n state ForOpen are =
     pinned-push h state.sessions (started_session (state.started + 1) (take n h)) are
     (record { pin = taken-so n h; standing = tt })
@@ -142,25 +141,25 @@ pinned-kept h state s None are = are
 pinned-kept h state s (Some values) are =
     pinned-change h state.sessions s (watch_with values) (λ x is. record { pin = is.pin; standing = is.pin }) are
 
-pinned-questioned : (h : List Update) (state : State) (question : Question) (s : ℕ) (names : List ℕ)
+pinned-questioned : (h : List Update) (n : ℕ) (state : State) (question : Question) (s : ℕ) (names : List ℕ)
     → AllPinned h state.sessions
-    → AllPinned h (state_after_question state question s names).sessions
-pinned-questioned h state WithProof s names are = are
-pinned-questioned h state WithCritical s names are = are
-pinned-questioned h state ToKeep s names are = pinned-kept h state s (values_of names) are
+    → AllPinned h (state_after (take n h) state (Asks question s names)).sessions
+pinned-questioned h n state WithProof s names are = are
+pinned-questioned h n state WithCritical s names are = are
+pinned-questioned h n state ToKeep s names are = pinned-kept h state s (values_of names) are
 
-pinned-controlled : (h : List Update) (state : State) (control : Control) → AllPinned h state.sessions
-    → AllPinned h (state_after_control state control).sessions
-pinned-controlled h state (ShowSecret bytes) are = are
-pinned-controlled h state Leave are = are
+pinned-controlled : (h : List Update) (n : ℕ) (state : State) (control : Control) → AllPinned h state.sessions
+    → AllPinned h (state_after (take n h) state (Controls control)).sessions
+pinned-controlled h n state (ShowSecret bytes) are = are
+pinned-controlled h n state Leave are = are
 
 pinned-changed : (h : List Update) (n : ℕ) (state : State) (shape : Shape) → AllPinned h state.sessions
     → AllPinned h (state_after (take n h) state shape).sessions
 pinned-changed h n state (Calls s call) are = pinned-call h state.sessions s call are
 pinned-changed h n state (Updates update) are = are
 pinned-changed h n state (Looks look) are = pinned-looked h n state look are
-pinned-changed h n state (Asks question s names) are = pinned-questioned h state question s names are
-pinned-changed h n state (Controls control) are = pinned-controlled h state control are
+pinned-changed h n state (Asks question s names) are = pinned-questioned h n state question s names are
+pinned-changed h n state (Controls control) are = pinned-controlled h n state control are
 pinned-changed h n state (AtFault fault) are = are
 
 module _ (h : List Update) (n : ℕ) (g : DaemonConfig) (caller : ℕ) (old new : State) (shape : Shape)

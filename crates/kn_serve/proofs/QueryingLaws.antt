@@ -26,6 +26,7 @@ use Rattle.kn_reply.specs.Replies.{Value, Critical, reply_text}
 use Rattle.kn_daemon.specs.Shapes.{Question, WithProof, WithCritical, Asks}
 use Rattle.kn_daemon.specs.Daemon.{DaemonConfig, State, session_of, session_parts, asked_of, equations_of, own_refusal}
 use Rattle.kn_daemon.specs.Daemon.{refuse_if, refusal_of_nodes}
+use Rattle.kn_daemon.proofs.Answered.{answers-question}
 use Rattle.kn_refusals.specs.Refusals.{refusal_of_values}
 use Rattle.kn_serve.specs.Handling.{Tells, RefusesQuestions, refusal_of_critical, refused_reply}
 use Rattle.kn_serve.specs.LastQuestions.{IsRight}
@@ -103,7 +104,9 @@ module _ (g : DaemonConfig) (whole : Bool) (old : State) (s : ℕ) (names : List
   query_answered version answer right at prints =
       told_done g (Asks WithProof s names) whole old l l' old
       (Value answer.value (slice_index_or values answer.value []) version answer.rows) refl (rw there (rw named refl))
-      (λ caller past. record {
+      (λ caller past. answers-question caller past old WithProof s names
+      (Value answer.value (slice_index_or values answer.value []) version answer.rows)
+      (record {
         session = session;
         values = values;
         found = there;
@@ -115,7 +118,7 @@ module _ (g : DaemonConfig) (whole : Bool) (old : State) (s : ℕ) (names : List
           proved = right.proof;
           least = right.least;
         };
-      }) (λ past. refl) (λ caller. refl) refl prints
+      })) (λ past. refl) (λ caller. refl) refl prints
 
   -- how many nodes are looked through
   abbrev nodes : ℕ
@@ -132,13 +135,14 @@ module _ (g : DaemonConfig) (whole : Bool) (old : State) (s : ℕ) (names : List
   critical_answered level ids least critical small prints =
       told_done g (Asks WithCritical s names) whole old l l' old (Critical level ids) refl
       (critical_own ∙ nodes_refusal nodes ∙ ap (option_and_then refusal_of_critical) small)
-      (λ caller past. record {
+      (λ caller past. answers-question caller past old WithCritical s names (Critical level ids)
+      (record {
         session = session;
         values = values;
         found = there;
         named = named;
         answer = record { level = level; ids = ids; exact = refl; least = least; critical = critical };
-      }) (λ past. refl) (λ caller. refl) refl prints
+      })) (λ past. refl) (λ caller. refl) refl prints
 
   -- it has too many nodes, or memory ran out
   pub critical_refused : (fault : CriticalFault) (told : Option Refusal) →

@@ -15,7 +15,9 @@ use Rattle.kn_reply.specs.Replies.{News, NoMemory, reply_text}
 use Rattle.kn_meaning.specs.Equations.{IsPolicyLevel}
 use Rattle.kn_daemon.specs.Shapes.{Shape, ToKeep, Asks, ForNews, Looks}
 use Rattle.kn_daemon.specs.Daemon.{DaemonConfig, State, session_of, own_refusal, equations_of, refusal_by}
-use Rattle.kn_daemon.specs.Daemon.{refusal_of_session, state_keeping, with_session}
+use Rattle.kn_daemon.specs.Daemon.{refusal_of_session, in_session, state_keeping, with_session}
+use Rattle.kn_daemon.proofs.Answered.{answers-question, answers-news}
+use Rattle.kn_daemon.proofs.Faults.{session-refusal}
 use Rattle.kn_registry.specs.Passes.{PassSeen, Looks as PassLooks, Stays}
 use Rattle.kn_serve.specs.Handling.{Moment, in_state, Handles, Tells, refused_reply}
 use Rattle.kn_serve.proofs.CallingLaws.{state_with}
@@ -80,13 +82,15 @@ watch_answered g whole a b is_admin s names l l' session values level version qu
     prints =
     told_done g (Asks ToKeep s names) whole (state_with a is_admin) l l' (state_with b is_admin)
     (News level (slice_index_or query.values level []) version) refl (rw there (rw named refl))
-    (λ caller past. record {
+    (λ caller past. answers-question caller past (state_with a is_admin) ToKeep s names
+    (News level (slice_index_or query.values level []) version)
+    (record {
       session = session;
       values = values;
       found = there;
       named = named;
       answer = record { level = level; exact = told; least = least };
-    }) (λ past. next) (λ caller. refl) refl prints
+    })) (λ past. next) (λ caller. refl) refl prints
   where
     told : News level (slice_index_or query.values level []) version
         ≡ News level (slice_index_or values level []) (length session.pinned)
@@ -110,7 +114,8 @@ pub news_refused : (g : DaemonConfig) (whole : Bool) (now : State) (s : ℕ) (l 
     told ≡ refusal_of_session fault → Prints whole (reply_text (refused_reply told)) l l' →
     Tells g (asks_anew s) whole now now l l'
 news_refused g whole now s l l' fault told why is prints =
-    told_either g (asks_anew s) whole now l l' told refl (λ due e. ap refusal_by why ∙ sym is ∙ e) prints
+    told_either g (asks_anew s) whole now l l' told refl
+    (λ due e. sym (session-refusal s (session_of now s) standing_fault) ∙ ap refusal_by why ∙ sym is ∙ e) prints
 
 -- one is found, with the session that keeps it
 pub record IsFound (found : Option Session) (query : StandingQuery) : Type 0 where
@@ -124,10 +129,10 @@ found_by None query stands = absurd stands
 found_by (Some session) query stands = record { session = session; there = refl; standing = stands }
 
 -- and then the state refuses nothing
-unrefused_by : (s : ℕ) (found : Option Session) (query : StandingQuery) →
-    IsSomeAnd found (λ x. x.standing ≡ Some query) → refusal_by (fault_in s found standing_fault) ≡ None
-unrefused_by s None query stands = absurd stands
-unrefused_by s (Some session) query stands = rw stands refl
+unrefused_by : (found : Option Session) (query : StandingQuery) → IsSomeAnd found (λ x. x.standing ≡ Some query) →
+    in_session found (λ x. refusal_by (standing_fault x)) ≡ None
+unrefused_by None query stands = absurd stands
+unrefused_by (Some session) query stands = rw stands refl
 
 -- the value of what was asked is the query's over that version
 pub asked_level : (query : StandingQuery) (made : List Update) (asking : Session) (values : List (List ℕ)) (level : ℕ) →
@@ -145,7 +150,7 @@ module _ (g : DaemonConfig) (whole : Bool) (v w : PassSeen) (l l' : LinkSeen) (s
       Handles g (asks_anew s) whole (in_state now v l) (in_state now w l')
   news_unpinned now stands stays prints =
       lacking_handled g (asks_anew s) whole (in_state now v l) (in_state now w l') refl stays
-      (unrefused_by s (session_of now s) query stands) refl prints
+      (unrefused_by (session_of now s) query stands) refl prints
 
   -- out of memory for the answer
   pub news_unanswered : (now : State) → IsSomeAnd (session_of now s) (λ x. x.standing ≡ Some query) →
@@ -153,7 +158,7 @@ module _ (g : DaemonConfig) (whole : Bool) (v w : PassSeen) (l l' : LinkSeen) (s
       Handles g (asks_anew s) whole (in_state now v l) (in_state now w l')
   news_unanswered now stands looks prints =
       unserved_handled g (asks_anew s) whole (in_state now v l) (in_state now w l') refl looks
-      (unrefused_by s (session_of now s) query stands) refl prints
+      (unrefused_by (session_of now s) query stands) refl prints
 
   -- the query is answered over the version, and moved to it
   pub news_answered : (a b : OpenSessions) (is_admin : Bool) (made : List Update) (asking : Session)
@@ -166,7 +171,7 @@ module _ (g : DaemonConfig) (whole : Bool) (v w : PassSeen) (l l' : LinkSeen) (s
       Handles g (asks_anew s) whole (in_state (state_with a is_admin) v l) (in_state (state_with b is_admin) w l')
   news_answered a b is_admin made asking values level version stands looks seen asks kept_values least at after prints =
       let own : own_refusal g (state_with a is_admin) (asks_anew s) ≡ None =
-      unrefused_by s (session_in a.sessions s) query stands in
+      unrefused_by (session_in a.sessions s) query stands in
       let found = found_by (session_in a.sessions s) query stands in
       let before : Moment = in_state (state_with a is_admin) v l in
       let moved : Moment = in_state (state_with b is_admin) w l' in
@@ -174,13 +179,16 @@ module _ (g : DaemonConfig) (whole : Bool) (v w : PassSeen) (l l' : LinkSeen) (s
       (News level (slice_index_or query.values level []) version) looks own refl
       (record {
         accepted = own;
-        answered = record {
-          session = found.session;
-          query = query;
-          found = found.there;
-          standing = found.standing;
-          news = record { level = level; exact = told; least = least_now };
-        };
+        answered =
+            answers-news v.number w.seen (state_with a is_admin) s
+            (News level (slice_index_or query.values level []) version)
+            (record {
+              session = found.session;
+              query = query;
+              found = found.there;
+              standing = found.standing;
+              news = record { level = level; exact = told; least = least_now };
+            });
         next = next;
       }) prints
     where

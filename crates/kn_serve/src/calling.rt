@@ -2,7 +2,7 @@
 ghost use Rattle.std.specs.Prelude.{◌≡◌, ◌≤◌, None, length, true};
 ghost use Rattle.kn_base.specs.declared.limits.TheConstants.{ASSERTION_BYTES};
 ghost use Rattle.kn_outside.specs.Printing.{is_whole};
-ghost use Rattle.kn_session.specs.Calls.{Set, call_of, asserted};
+ghost use Rattle.kn_session.specs.Calls.{Set, call_of, asserted_text};
 ghost use Rattle.kn_wire.specs.Hex.{bytes_of_hex};
 ghost use Rattle.kn_wire.specs.Requests.{is_hex};
 ghost use Rattle.kn_daemon.specs.Shapes.{Calls};
@@ -13,7 +13,7 @@ use crate::connection::Connection;
 use crate::refusals::{print_applied, print_refusal};
 use kn_base::NoMemory;
 use kn_outside::{Failed, Link};
-use kn_refusals::refusal_of_call;
+use kn_refusals::refusal_of_call_fault;
 use kn_reply::{Reply, print};
 use kn_session::Call;
 use kn_wire::decode_hex;
@@ -28,7 +28,7 @@ pub(crate) fn call<L: Link>(
     link: &mut L,
 ) -> Result<(), Failed>
     requires room { HasRoom (state_of connection.old) }
-    requires short { length (asserted (call_of call)) ≤ ASSERTION_BYTES }
+    requires short { length (asserted_text (call_of call)) ≤ ASSERTION_BYTES }
     ensures forgotten { connection.new.last.answer ≡ None }
     ensures exact { (g : DaemonConfig) → Tells g (Calls s (call_of call.entry)) (is_whole result)
         (state_of connection.old) (state_of connection.new) (L.seen link.old) (L.seen link.new) }
@@ -36,7 +36,7 @@ pub(crate) fn call<L: Link>(
     connection.last.forget();
     match connection.sessions.apply(alloc, s, call) {
         Ok(applied) => print_applied(applied, link),
-        Err(fault) => print_refusal(refusal_of_call(&fault), link),
+        Err(fault) => print_refusal(refusal_of_call_fault(&fault), link),
     }
 }
 

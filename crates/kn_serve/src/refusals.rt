@@ -2,7 +2,7 @@
 ghost use Rattle.std.specs.Prelude.{◌≡◌};
 ghost use Rattle.kn_outside.specs.Printing.{Prints, is_whole};
 ghost use Rattle.kn_reply.specs.Replies.{reply_text};
-ghost use Rattle.kn_daemon.specs.Daemon.{reply_of_call};
+ghost use Rattle.kn_daemon.specs.CallFaults.{reply_of_applied};
 ghost use Rattle.kn_serve.specs.Handling.{refusal_of_critical, refusal_of_version, refused_reply};
 
 use kn_critical::CriticalFault;
@@ -46,7 +46,8 @@ pub(crate) fn print_refusal<L: Link>(refusal: Option<Refusal>, link: &mut L) -> 
 
 /// Prints what an accepted call of a session gave.
 pub(crate) fn print_applied<L: Link>(applied: Applied, link: &mut L) -> Result<(), Failed>
-    ensures prints { Prints (is_whole result) (reply_text (reply_of_call applied)) (L.seen link.old) (L.seen link.new) }
+    ensures prints { Prints (is_whole result) (reply_text (reply_of_applied applied)) (L.seen link.old)
+        (L.seen link.new) }
 {
     match applied {
         Applied::Done => print(&Reply::Ok, link),

@@ -19,7 +19,7 @@ use Rattle.kn_session.specs.Connection.{fault_at, with_open_session}
 use Rattle.kn_session.specs.Calls as C
 use Rattle.kn_session.specs.Calls.{Call, Assert, is_change, session_fault, call_change, IsDue, private_fault}
 use Rattle.kn_session.specs.Calls.{add_private, text_fault, call_fault, call_fault_in, call_answer}
-use Rattle.kn_session.specs.Calls.{call_may_lack_memory, own_fault, lacks_memory, asserted, with_call, answer_done}
+use Rattle.kn_session.specs.Calls.{call_may_lack_memory, own_fault, lacks_memory, asserted_text, with_call, answer_done}
 use Rattle.kn_session.specs.Calls.{Accepts, Refuses}
 
 err-is : (read : Result Assertion ReadFault) (fault : ReadFault) → result_err read ≡ Some fault → read ≡ Err fault

@@ -199,10 +199,10 @@ abbrev pub place_of_fault : CallFault → ℕ
 place_of_fault (T.Text fault) = fault_place fault
 place_of_fault (T.Session fault) = 0
 
--- the text that is to be read as an assertion
-abbrev pub asserted : Call → List ℕ
-asserted (Assert text) = text
-asserted call = []
+-- the text that a call asserts; any other call has the empty text
+abbrev pub asserted_text : Call → List ℕ
+asserted_text (Assert text) = text
+asserted_text call = []
 
 -- the open sessions after an accepted call
 abbrev pub with_call : OpenSessions → ℕ → Call → OpenSessions
@@ -220,7 +220,7 @@ pub record Accepts (old new : OpenSessions) (s : ℕ) (call : Call) (applied : A
 pub record Refuses (old new : OpenSessions) (s : ℕ) (call : Call) (fault : CallFault) : Type 0 where
   pub why : (lacks_memory fault ≡ true) ⊎ (call_fault_in s (session_in old.sessions s) call ≡ Some fault)
   pub memory : lacks_memory fault ≡ true → call_may_lack_memory call ≡ true
-  pub place : place_of_fault fault ≤ length (asserted call)
+  pub place : place_of_fault fault ≤ length (asserted_text call)
   pub same : new ≡ old
 
 -- the answer of a call that gives nothing

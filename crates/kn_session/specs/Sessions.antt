@@ -64,17 +64,15 @@ fault_in s (Some session) fault = fault session
 
 -- a new session
 abbrev pub started_session : ℕ → List Update → Session
-started_session number past =
-    record {
-      number = number;
-      pinned = past;
-      privates = [];
-      made = 0;
-      attributes = [];
-      requesters = [];
-      standing =
-          None;
-    }
+started_session number past = record {
+  number = number;
+  pinned = past;
+  privates = [];
+  made = 0;
+  attributes = [];
+  requesters = [];
+  standing = None;
+}
 
 -- one more session, where so many were started before it
 abbrev pub with_started : ℕ → List Session → List Update → List Session
@@ -87,15 +85,13 @@ pin_at past x = record x { pinned = past }
 
 -- what a session asks where these are the compliance values
 abbrev pub query_with : List (List ℕ) → Session → StandingQuery
-query_with values x =
-    record {
-      pinned = x.pinned;
-      privates = x.privates;
-      attributes = x.attributes;
-      requesters = x.requesters;
-      values =
-          values;
-    }
+query_with values x = record {
+  pinned = x.pinned;
+  privates = x.privates;
+  attributes = x.attributes;
+  requesters = x.requesters;
+  values = values;
+}
 
 -- it is kept, in place of an earlier one
 abbrev pub watch_with : List (List ℕ) → Session → Session

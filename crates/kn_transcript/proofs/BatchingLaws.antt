@@ -21,10 +21,9 @@ use Rattle.kn_reply.specs.declared.refusal.ItemRefusal.TheVariants as I
 use Rattle.kn_reply.specs.Logs.{item_of}
 use Rattle.kn_reply.specs.Replies.{Batched, No, reply_text}
 use Rattle.kn_daemon.specs.Shapes.{Shape, ApplyBlock, Updates}
-use Rattle.kn_daemon.specs.Daemon.{DaemonConfig, State, own_refusal, placed_refusal, refusal_of_update}
-use Rattle.kn_daemon.specs.Daemon.{refusal_of_block}
+use Rattle.kn_daemon.specs.Daemon.{DaemonConfig, State, own_refusal, placed_refusal, refusal_of_block, read_items}
 use Rattle.kn_daemon.specs.Daemon.{refusal_of_batch, refusal_of_item_fault, refusal_from, refuse_if}
-use Rattle.kn_daemon.specs.Linearized.{read_items}
+use Rattle.kn_daemon.proofs.Answered.{answers-batch}
 use Rattle.kn_refusals.specs.Refusals.{refusal_of_batch_text, refusal_of_batch_fault}
 use Rattle.kn_transcript.specs.declared.items.ReadItems.{ReadItems}
 use Rattle.kn_transcript.specs.Followed.{with_update, history_behind}
@@ -47,9 +46,9 @@ all_asked parts items r =
     r.asked ∙ ap (map item_of) (sym whole)
 
 module _ (past : List Update) (old : State) (block left : List ℕ) (admin : old.is_admin ≡ true) where
-  shown : (g : DaemonConfig) (o : Option Refusal) → refusal_of_update g (ApplyBlock block) ≡ o
+  shown : (g : DaemonConfig) (o : Option Refusal) → refusal_of_block g (items_of block) ≡ o
       → own_refusal g old (batches block) ≡ o
-  shown g o is = ap (λ (b : Bool). refuse_if (not b) R.Admin (refusal_of_update g (ApplyBlock block))) admin ∙ is
+  shown g o is = ap (λ (b : Bool). refuse_if (not b) R.Admin (refusal_of_block g (items_of block))) admin ∙ is
 
   -- the block isn't made of items
   pub batch_unread : {X E : Type 0} (result : Result X E) (view : X → Option (List ℕ)) (fault : BatchText)
@@ -64,15 +63,15 @@ module _ (past : List Update) (old : State) (block left : List ℕ) (admin : old
     where
       refuses : (g : DaemonConfig) (due : Refusal) (f : BatchText) → HasFault block f
           → refusal_of_batch_text f ≡ Some due
-          → refusal_of_update g (ApplyBlock block) ≡ Some due
+          → refusal_of_block g (items_of block) ≡ Some due
       refuses g due (T.Form item) e is = ap (λ (r : Result (List BatchItem) ℕ). refusal_of_block g r) e ∙ is
       refuses g due T.NoMemory e is = absurd (cc is)
 
   module _ (items : List BatchItem) (reads : items_of block ≡ Ok items) (read : ReadItems) (r : AreRead items read)
     where
       of_items : (g : DaemonConfig) (o : Option Refusal) → refusal_from g 1 items ≡ o
-          → refusal_of_update g (ApplyBlock block) ≡ o
-      of_items g o is = ap (λ (x : Result (List BatchItem) ℕ). refusal_of_block g x) reads ∙ is
+          → own_refusal g old (batches block) ≡ o
+      of_items g o is = shown g o (ap (λ (x : Result (List BatchItem) ℕ). refusal_of_block g x) reads ∙ is)
 
       abbrev pub IsItemVerdict : Refusal → Type 0
       IsItemVerdict told = IsVerdictAt items (length read.items) told
@@ -92,7 +91,7 @@ module _ (past : List Update) (old : State) (block left : List ℕ) (admin : old
           let m = may_refuse items read r place fault (omega (arith, same, within)) anew is_fault in
           let refusal : Refusal = R.Item (place + 1) (I.Auth fault) in
           let own : own_refusal m.0 old (batches block) ≡ Some refusal =
-          shown m.0 (Some refusal) (of_items m.0 (Some refusal) m.2) in
+          of_items m.0 (Some refusal) m.2 in
           taken_by past old (batches block) left past old (No refusal) rest tt
           (record {
             grounds = m.0;
@@ -100,12 +99,12 @@ module _ (past : List Update) (old : State) (block left : List ℕ) (admin : old
             permitted = (ap (λ (o : Option Refusal). option_or o (placed_refusal past (batches block))) own, refl);
           }) refl cut
 
-      zero : refusal_of_update (config_at 0) (ApplyBlock block) ≡ unread_refusal (length read.items) read.refusal
+      zero : own_refusal (config_at 0) old (batches block) ≡ unread_refusal (length read.items) read.refusal
       zero = of_items (config_at 0) (unread_refusal (length read.items) read.refusal)
           (silent_refusal items read r (config_at 0) (λ text a. refl))
 
       module _ (none : NoneStands past old (batches block) left IsItemVerdict) where
-        may : RefusesOr past old (ApplyBlock block) left IsItemVerdict admin none
+        may : RefusesOr past old (ApplyBlock block) left IsItemVerdict none
             (unread_refusal (length read.items) read.refusal)
         may g few = elim (batch_refusals items read r g few) [
           | inl f ↦ inl (f.0, f.1, of_items g (Some f.0) f.2)
@@ -121,9 +120,9 @@ module _ (past : List Update) (old : State) (block left : List ℕ) (admin : old
           batch_unread_item inner number is at behind =
               let told : unread_refusal (length read.items) read.refusal ≡ Some (R.Item number inner) =
               ap (unread_refusal (length read.items)) is ∙ ap (λ (n : ℕ). Some (R.Item n inner)) (sym at) in
-              update_refused past old (ApplyBlock block) left IsItemVerdict admin none result view (R.Item number inner)
+              update_refused past old (ApplyBlock block) left IsItemVerdict none result view (R.Item number inner)
               (zero ∙ told)
-              (subst (λ (o : Option Refusal). RefusesOr past old (ApplyBlock block) left IsItemVerdict admin none o)
+              (subst (λ (o : Option Refusal). RefusesOr past old (ApplyBlock block) left IsItemVerdict none o)
               told
               may) behind
 
@@ -131,24 +130,17 @@ module _ (past : List Update) (old : State) (block left : List ℕ) (admin : old
             silent : unread_refusal (length read.items) read.refusal ≡ None
             silent = ap (unread_refusal (length read.items)) all
 
-            may_none : RefusesOr past old (ApplyBlock block) left IsItemVerdict admin none None
-            may_none = subst (λ (o : Option Refusal). RefusesOr past old (ApplyBlock block) left IsItemVerdict admin
-                none
-                o) silent may
+            may_none : RefusesOr past old (ApplyBlock block) left IsItemVerdict none None
+            may_none = subst (λ (o : Option Refusal). RefusesOr past old (ApplyBlock block) left IsItemVerdict none o)
+                silent may
 
-            found_refusal : List Item → Option Refusal
-            found_refusal asked =
-                option_and_then (λ found. refusal_of_item_fault found.0 found.1)
-                (refusal_of_items (all_changes past) asked)
-
-            placed_is : placed_refusal past (batches block) ≡ found_refusal (map item_of items)
-            unfolding found_refusal
-            placed_is = ap (λ (x : Result (List BatchItem) ℕ). refusal_of_batch past x) reads
+            placed_is : placed_refusal past (batches block) ≡ refusal_of_batch past (map item_of items)
+            placed_is =
+                ap (λ (x : Result (List BatchItem) ℕ). option_and_then (refusal_of_batch past) (read_items x)) reads
 
             placed_by : (found : Option (ℕ × StoreFault))
                 → refusal_of_items (all_changes past) (map item_of items) ≡ found
                 → placed_refusal past (batches block) ≡ option_and_then (λ f. refusal_of_item_fault f.0 f.1) found
-            unfolding found_refusal
             placed_by found is =
                 placed_is ∙ ap (λ (o : Option (ℕ × StoreFault)). option_and_then (λ f. refusal_of_item_fault f.0 f.1) o)
                 is
@@ -182,12 +174,21 @@ module _ (past : List Update) (old : State) (block left : List ℕ) (admin : old
                   ++ batch_by 0 first (map item_of items) ∷ [] =
                   ap (λ (x : Result (List BatchItem) ℕ).
                   with_update past (option_map (λ (l : List Item). batch_by 0 first l) (read_items x))) reads in
-                  update_made past old (ApplyBlock block) left IsItemVerdict admin none result view history
+                  update_made past old (ApplyBlock block) left IsItemVerdict none result view history
                   (Batched first added version)
                   tt refl (zero ∙ silent) may_none (placed_by None unrefused)
                   (here ∙ ap (λ (n : ℕ). past ++ batch_by 0 n (map item_of items) ∷ []) (sym number) ∙ sym named)
-                  (items, reads, record { before = past; ends = here; accepted = accepted; exact = told })
-                  (λ reply is. (batched_only past block items reads reply is).0 ∙ sym due) behind
+                  (answers-batch 0 history old block (Batched first added version) (record {
+                    items = items;
+                    read = reads;
+                    batch = record {
+                      first = next_id past;
+                      committed = record { before = past; ends = here; accepted = accepted };
+                      next = refl;
+                      exact = told;
+                    };
+                  }))
+                  (λ reply is. (batched_only past block items reads reply old is).0 ∙ sym due) behind
 
               -- the history refuses an item
               pub batch_refused : (fault : BatchFault) (told : Option Refusal) → history ≡ past
@@ -211,10 +212,10 @@ module _ (past : List Update) (old : State) (block left : List ℕ) (admin : old
                       ap (refusal_of_items (all_changes past)) (sym same) ∙ why in
                       subst (λ (h : List Update).
                       IfOk x (λ found. Judges past old (batches block) left h old (view found))) (sym kept)
-                      (update_placed past old (ApplyBlock block) left IsItemVerdict admin none x view due (zero
+                      (update_placed past old (ApplyBlock block) left IsItemVerdict none x view due (zero
                       ∙ silent) may_none
                       (placed_by (Some (number, f)) found ∙ is)
-                      (λ reply done. absurd (let no = (batched_only past block items reads reply done).1 in
+                      (λ reply done. absurd (let no = (batched_only past block items reads reply old done).1 in
                       cc (found, no))) there)
 
 -- what a search for a refusal of an item found

@@ -8,14 +8,15 @@ use Rattle.kn_session.specs.declared.fault.CallFault.{CallFault}
 use Rattle.kn_session.specs.declared.call.Applied.{Applied}
 use Rattle.kn_session.specs.declared.call.Applied.TheVariants as A
 use Rattle.kn_session.specs.Sessions.{Session, OpenSessions, session_in, fault_in}
-use Rattle.kn_session.specs.Calls.{Call, call_fault_in, call_answer, lacks_memory, Accepts, Refuses}
+use Rattle.kn_session.specs.Calls.{Call, call_fault_in, lacks_memory, Accepts, Refuses}
 use Rattle.kn_reply.specs.declared.refusal.Refusal.{Refusal}
-use Rattle.kn_reply.specs.Replies.{Reply, No, reply_text}
+use Rattle.kn_reply.specs.Replies.{No, reply_text}
 use Rattle.kn_reply_reader.specs.Texts.{HasText}
 use Rattle.kn_daemon.specs.Shapes.{Calls}
-use Rattle.kn_daemon.specs.Daemon.{DaemonConfig, State, session_of, own_refusal, refusal_of_call, reply_of_call}
-use Rattle.kn_daemon.proofs.Faults.{lacking-untold}
-use Rattle.kn_transcript.specs.Followed.{history_behind}
+use Rattle.kn_daemon.specs.Daemon.{DaemonConfig, State, session_of, own_refusal, reply_of_call}
+use Rattle.kn_daemon.specs.CallFaults.{refusal_of_call_fault, reply_of_applied}
+use Rattle.kn_daemon.proofs.Faults.{lacking-untold, call-refusal, call-reply}
+use Rattle.kn_daemon.proofs.Answered.{is-there}
 use Rattle.kn_transcript.specs.Judging.{HasRoom, IsBehind, Judges}
 use Rattle.kn_transcript.proofs.ConfigChoices.{is_acceptance}
 use Rattle.kn_transcript.proofs.DueReplies.{refused_ok, done_ok, told_by}
@@ -38,33 +39,13 @@ private_few state s room x e = below x.made room.0 (2 ^ 31) (room.2.made s x e) 
     below : (m n k : ℕ) → m ≤ n → n < k → m < k
     below m n k a b = omega arith
 
-acceptance : (applied : Applied) → is_acceptance (reply_of_call applied) ≡ true
+acceptance : (applied : Applied) → is_acceptance (reply_of_applied applied) ≡ true
 acceptance A.Done = refl
 acceptance (A.Added k) = refl
 
-has_text : (applied : Applied) → HasText (reply_of_call applied)
+has_text : (applied : Applied) → HasText (reply_of_applied applied)
 has_text A.Done = tt
 has_text (A.Added k) = tt
-
-no_update : (past : List Update) (applied : Applied) (s : ℕ) (call : Call)
-    → history_behind past (Calls s call) (reply_of_call applied) ≡ past
-no_update past A.Done s call = refl
-no_update past (A.Added k) s call = refl
-
--- the answer of a session is that of the one that is found
-answer_found : (found : Option Session) (session : Session) (reply : Reply) (call : Call) → found ≡ Some session
-    → IsSomeAnd found (λ x. reply ≡ reply_of_call (call_answer call x))
-    → reply ≡ reply_of_call (call_answer call session)
-answer_found None session reply call e is = absurd (cc e)
-answer_found (Some x) session reply call e is =
-    let same : x ≡ session = cc in is ∙ ap (λ (y : Session). reply_of_call (call_answer call y)) same
-
-found_answer : (found : Option Session) (session : Session) (reply : Reply) (call : Call) → found ≡ Some session
-    → reply ≡ reply_of_call (call_answer call session)
-    → IsSomeAnd found (λ x. reply ≡ reply_of_call (call_answer call x))
-found_answer None session reply call e is = absurd (cc e)
-found_answer (Some x) session reply call e is =
-    let same : session ≡ x = cc in is ∙ ap (λ (y : Session). reply_of_call (call_answer call y)) same
 
 module _ (past : List Update) (a b : OpenSessions) (is_admin : Bool) (s : ℕ) (call : Call)
     (left : List ℕ) {X E : Type 0}
@@ -74,37 +55,43 @@ module _ (past : List Update) (a b : OpenSessions) (is_admin : Bool) (s : ℕ) (
       (λ found. Judges past (state_with a is_admin) (Calls s call) left past (state_with x is_admin) (view found))
 
   pub call_done : (applied : Applied) → Accepts a b s call applied
-      → IfOk result (λ found. IsBehind left (reply_text (reply_of_call applied)) (view found)) → JudgedTo b
+      → IfOk result (λ found. IsBehind left (reply_text (reply_of_applied applied)) (view found)) → JudgedTo b
   call_done applied k behind =
-      done_ok past (state_with a is_admin) (Calls s call) left view (reply_of_call applied) (state_with b is_admin)
-      (has_text applied) (acceptance applied) (λ g. accepted g) refl (no_update past applied s call)
-      (found_answer (session_in a.sessions s) k.session (reply_of_call applied) call k.found (ap reply_of_call k.gives))
+      done_ok past (state_with a is_admin) (Calls s call) left view (reply_of_applied applied) (state_with b is_admin)
+      (has_text applied) (acceptance applied) (λ g. accepted g) refl refl
+      (is-there (λ x. reply_of_applied applied ≡ reply_of_call call x) (session_in a.sessions s) k.session k.found due)
       (ap (λ (x : OpenSessions). state_with x is_admin) k.makes)
-      (λ g reply other does. answer_found (session_in a.sessions s) k.session reply call k.found does.answered
-      ∙ ap reply_of_call (sym k.gives)) result behind
+      (λ g reply other does. subst (λ (o : Option Session). IsSomeAnd o (λ x. reply ≡ reply_of_call call x)) k.found
+      does.answered ∙ sym due) result behind
     where
+      due : reply_of_applied applied ≡ reply_of_call call k.session
+      due = ap reply_of_applied k.gives ∙ sym (call-reply call k.session)
+
       accepted : (g : DaemonConfig) → own_refusal g (state_with a is_admin) (Calls s call) ≡ None
       accepted g =
-          ap (λ (x : Option Session). option_and_then refusal_of_call (call_fault_in s x call)) k.found
-          ∙ ap (λ (f : Option CallFault). option_and_then refusal_of_call f) k.no_fault
+          call-refusal g (state_with a is_admin) s call
+          ∙ ap (λ (x : Option Session). option_and_then refusal_of_call_fault (call_fault_in s x call)) k.found
+          ∙ ap (λ (f : Option CallFault). option_and_then refusal_of_call_fault f) k.no_fault
 
-  pub call_refused : (fault : CallFault) (due : Refusal) → Refuses a b s call fault → Some due ≡ refusal_of_call fault
+  pub call_refused : (fault : CallFault) (due : Refusal) → Refuses a b s call fault
+      → Some due ≡ refusal_of_call_fault fault
       → IfOk result (λ found. IsBehind left (reply_text (No due)) (view found)) → JudgedTo b
   call_refused fault due k is behind =
       subst JudgedTo (sym k.same)
-      (refused_ok past (state_with a is_admin) (Calls s call) left view due (λ g. refused k.why) result behind)
+      (refused_ok past (state_with a is_admin) (Calls s call) left view due
+      (λ g. call-refusal g (state_with a is_admin) s call ∙ refused k.why) result behind)
     where
       refused : (lacks_memory fault ≡ true) ⊎ (call_fault_in s (session_in a.sessions s) call ≡ Some fault)
-          → option_and_then refusal_of_call (call_fault_in s (session_in a.sessions s) call) ≡ Some due
+          → option_and_then refusal_of_call_fault (call_fault_in s (session_in a.sessions s) call) ≡ Some due
       refused (inl memory) = absurd (let none = lacking-untold fault memory in cc (is, none))
-      refused (inr why) = ap (λ (f : Option CallFault). option_and_then refusal_of_call f) why ∙ sym is
+      refused (inr why) = ap (λ (f : Option CallFault). option_and_then refusal_of_call_fault f) why ∙ sym is
 
 -- the fault of a call, told as a refusal
 pub call_untaken : (past : List Update) (a b : OpenSessions) (is_admin : Bool) (s : ℕ) (call : Call)
     (left : List ℕ) {X E : Type 0}
     (result : Result X E) (view : X → Option (List ℕ)) (fault : CallFault) (refusal : Option Refusal)
     → Refuses a b s call fault
-    → refusal ≡ refusal_of_call fault
+    → refusal ≡ refusal_of_call_fault fault
     → IfOk result (λ found. (due : Refusal) × (refusal ≡ Some due) × IsBehind left (reply_text (No due)) (view found))
     → IfOk result (λ found. Judges past (state_with a is_admin) (Calls s call) left past (state_with b is_admin)
     (view found))

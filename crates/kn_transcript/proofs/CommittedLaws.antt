@@ -20,8 +20,8 @@ use Rattle.kn_wire.specs.Items.{BatchItem, items_of}
 use Rattle.kn_reply.specs.Logs.{item_of}
 use Rattle.kn_reply.specs.Replies.{Reply, Number, Added, Batched}
 use Rattle.kn_daemon.specs.Shapes.{AddText, DropId, ApplyBlock, Updates}
-use Rattle.kn_daemon.specs.Daemon.{IsCommitted, IsBatchCommitted, IsUpdated}
-use Rattle.kn_daemon.specs.Linearized.{read_items}
+use Rattle.kn_daemon.specs.Daemon.{State, read_items, IsCommitted, IsBatchCommitted, Answers}
+use Rattle.kn_daemon.proofs.Answered.{batch-answered}
 use Rattle.kn_transcript.specs.Followed.{with_update, history_behind}
 
 none_is : {X : Type 0} (o : Option X) → is_none o ≡ true → o ≡ None
@@ -75,10 +75,10 @@ module _ (past : List Update) where
       let same = same_from_push past c.before u u (sym here ∙ c.ends) in
       subst (λ (h : List Update). update_may_follow (all_changes h) u ≡ true) (sym same.0) c.accepted
 
-  pub added_only : (text : List ℕ) (reply : Reply)
-      → IsUpdated 0 (history_behind past (Updates (AddText text)) reply) (AddText text) reply
+  pub added_only : (old : State) (text : List ℕ) (reply : Reply)
+      → Answers 0 (history_behind past (Updates (AddText text)) reply) old (Updates (AddText text)) reply
       → (reply ≡ Added (next_id past) (length past + 1)) × (refusal_of_text (all_changes past) text ≡ None)
-  added_only text reply is =
+  added_only old text reply is =
       let id : ℕ = is.0 in
       let u = addition_by 0 text id in
       let here : history_behind past (Updates (AddText text)) reply ≡ past ++ u ∷ [] =
@@ -89,10 +89,10 @@ module _ (past : List Update) where
       ap (λ (h : List Update). length h) here ∙ longer u in
       (is.2 ∙ rw (facts.1, size) refl, facts.0)
 
-  pub removed_only : (id : ℕ) (reply : Reply)
-      → IsUpdated 0 (history_behind past (Updates (DropId id)) reply) (DropId id) reply
+  pub removed_only : (old : State) (id : ℕ) (reply : Reply)
+      → Answers 0 (history_behind past (Updates (DropId id)) reply) old (Updates (DropId id)) reply
       → (reply ≡ Number (length past + 1)) × (refusal_of_id (all_changes past) id ≡ None)
-  removed_only id reply is =
+  removed_only old id reply is =
       let u = removal_by 0 id in
       let here : history_behind past (Updates (DropId id)) reply ≡ past ++ u ∷ [] =
       ap (λ (r : Reply). history_behind past (Updates (DropId id)) r) is.1 in
@@ -115,29 +115,29 @@ module _ (past : List Update) where
         → (reply ≡ batch_reply (map item_of items)) × (refusal_of_items (all_changes past) (map item_of items) ≡ None)
     batch_by_items b =
         let asked = map item_of items in
-        let u = batch_by 0 (next_id b.before) asked in
+        let u = batch_by 0 b.first asked in
         let here : made ≡ past ++ u ∷ [] =
         ap (λ (r : Reply). history_behind past (Updates (ApplyBlock block)) r) b.exact
         ∙ ap (λ (r : Result (List BatchItem) ℕ).
-        with_update past (option_map (λ (all : List Item). batch_by 0 (next_id b.before) all) (read_items r))) reads in
-        let front : past ≡ b.before = (same_from_push past b.before u u (sym here ∙ b.ends)).0 in
+        with_update past (option_map (λ (all : List Item). batch_by 0 b.first all) (read_items r))) reads in
+        let front : past ≡ b.committed.before =
+        (same_from_push past b.committed.before u u (sym here ∙ b.committed.ends)).0 in
+        let number : b.first ≡ next_id past = b.next ∙ ap (λ (h : List Update). next_id h) (sym front) in
         let size : length made ≡ length past + 1 = ap (λ (h : List Update). length h) here ∙ longer u in
         let follows : update_may_follow (all_changes past) (batch_by 0 (next_id past) asked) ≡ true =
-        subst (λ (h : List Update). update_may_follow (all_changes h) (batch_by 0 (next_id h) asked) ≡ true) (sym front)
-        b.accepted in (
-          b.exact ∙ ap (λ (n : ℕ). Batched (next_id b.before) (additions (numbered_from (next_id b.before) asked)) n)
-              size
-              ∙ ap (λ (h : List Update). Batched (next_id h) (additions (numbered_from (next_id h) asked))
-              (length past + 1))
-              (sym front),
+        subst (λ (n : ℕ). update_may_follow (all_changes past) (batch_by 0 n asked) ≡ true) number
+        (committed_follows u made here b.committed) in (
+          b.exact ∙ ap (λ (n : ℕ). Batched b.first (additions (numbered_from b.first asked)) n) size
+              ∙ ap (λ (n : ℕ). Batched n (additions (numbered_from n asked)) (length past + 1)) number,
           items_follow (all_changes past) 0 asked follows,
         )
 
-    pub batched_only : IsUpdated 0 made (ApplyBlock block) reply
+    pub batched_only : (old : State) → Answers 0 made old (Updates (ApplyBlock block)) reply
         → (reply ≡ batch_reply (map item_of items)) × (refusal_of_items (all_changes past) (map item_of items) ≡ None)
-    batched_only is =
-        let same : is.0 ≡ items = ok_same (items_of block) is.0 items is.1 reads in
-        batch_by_items (subst (λ (l : List BatchItem). IsBatchCommitted 0 made (map item_of l) reply) same is.2)
+    batched_only old is =
+        let a = batch-answered 0 made old block reply is in
+        let same : a.items ≡ items = ok_same (items_of block) a.items items a.read reads in
+        batch_by_items (subst (λ (l : List BatchItem). IsBatchCommitted 0 made (map item_of l) reply) same a.batch)
       where
         ok_same : (r : Result (List BatchItem) ℕ) (a b : List BatchItem) → r ≡ Ok a → r ≡ Ok b → a ≡ b
         ok_same r a b first second = cc (first, second)

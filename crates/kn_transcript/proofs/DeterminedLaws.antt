@@ -6,6 +6,7 @@ use Rattle.kn_reply.specs.Replies.{Reply, Done, Started, Number, PrivateAdded, A
 use Rattle.kn_reply.specs.Replies.{News, Critical, No, NoMemory, reply_text}
 use Rattle.kn_daemon.specs.Shapes.{Shape, Updates, AddText, DropId, ApplyBlock}
 use Rattle.kn_daemon.specs.Daemon.{DaemonConfig, State, Permits, Does, Answers, state_after}
+use Rattle.kn_daemon.proofs.Answered.{batch-answered}
 use Rattle.kn_transcript.specs.Followed.{IsPermitted, history_behind}
 use Rattle.kn_transcript.specs.Accepted.{is_value}
 use Rattle.kn_transcript.specs.Progress.{begins_with_value}
@@ -79,13 +80,16 @@ one_history : (past : List Update) (old : State) (shape : Shape) (a b : Reply)
     → Answers 0 (history_behind past shape a) old shape a → Answers 0 (history_behind past shape b) old shape b
     → history_behind past shape a ≡ history_behind past shape b
 one_history past old (Updates (AddText text)) a b is is' =
-    ap (history_behind past (Updates (AddText text))) ((added_only past text a is).0
-    ∙ sym (added_only past text b is').0)
+    ap (history_behind past (Updates (AddText text)))
+    ((added_only past old text a is).0 ∙ sym (added_only past old text b is').0)
 one_history past old (Updates (DropId id)) a b is is' =
-    ap (history_behind past (Updates (DropId id))) ((removed_only past id a is).0 ∙ sym (removed_only past id b is').0)
+    ap (history_behind past (Updates (DropId id)))
+    ((removed_only past old id a is).0 ∙ sym (removed_only past old id b is').0)
 one_history past old (Updates (ApplyBlock block)) a b is is' =
+    let asked = batch-answered 0 (history_behind past (Updates (ApplyBlock block)) a) old block a is in
     ap (history_behind past (Updates (ApplyBlock block)))
-    ((batched_only past block is.0 is.1 a is).0 ∙ sym (batched_only past block is.0 is.1 b is').0)
+    ((batched_only past block asked.items asked.read a old is).0
+    ∙ sym (batched_only past block asked.items asked.read b old is').0)
 one_history past old shape a b is is' = refl
 
 module _ (past : List Update) (old : State) (shape : Shape) (a b : Reply) (new other : State)

@@ -9,9 +9,8 @@ use Rattle.kn_meaning.specs.Equations.{IsPolicyLevel}
 use Rattle.kn_history.specs.declared.update.Update.{Update}
 use Rattle.kn_wire.specs.Requests.{Request}
 use Rattle.kn_session.specs.Sessions.{Session}
-use Rattle.kn_session.specs.declared.call.Applied.{Applied}
-use Rattle.kn_session.specs.declared.call.Applied.TheVariants as A
-use Rattle.kn_session.specs.Calls.{Call, call_answer}
+use Rattle.kn_session.specs.Calls.{Call}
+use Rattle.kn_session.specs.Calls as C
 use Rattle.kn_reply.specs.Replies.{Reply, Value}
 use Rattle.kn_daemon.specs.Shapes.{Shape, Calls, Updates, Looks, Asks, Controls, AtFault, AddText, DropId, ApplyBlock}
 use Rattle.kn_daemon.specs.Shapes.{ForOpen, ForPin, ForPinAt, ForNews, ForLog, WithProof, WithCritical, ToKeep}
@@ -20,6 +19,7 @@ use Rattle.kn_env.specs.Values.{values_of}
 use Rattle.kn_daemon.specs.Daemon.{DaemonConfig, State, Permits, Answers, session_of, equations_of, reply_of_call}
 use Rattle.kn_daemon.specs.Linearized.{Exchange, update_by}
 use Rattle.kn_daemon.specs.Alone.{RunsAlone}
+use Rattle.kn_daemon.proofs.Answered.{question-answered, news-answered, batch-answered}
 use Rattle.kn_transcript.specs.declared.fault.TheConstants.{AUTH_FAULTS}
 use Rattle.kn_transcript.specs.Followed.{Answered, Follows, with_update, history_behind}
 use Rattle.kn_transcript.specs.Laws.{answered_of, IsLeastBehind}
@@ -62,13 +62,10 @@ record IsAsked (state : State) (shape : Shape) (index : ℕ) : Type 0 where
   pub least : IsPolicyLevel (equations_of session values) index
 
 no_value : (found : Option Session) (call : Call) (index : ℕ) (name : List ℕ) (version : ℕ) (rows : List NamedRow)
-    → IsSomeAnd found (λ x. Value index name version rows ≡ reply_of_call (call_answer call x)) → ⊥
+    → IsSomeAnd found (λ x. Value index name version rows ≡ reply_of_call call x) → ⊥
 no_value None call index name version rows is = absurd is
-no_value (Some x) call index name version rows is = by (call_answer call x) is
-  where
-    by : (applied : Applied) → Value index name version rows ≡ reply_of_call applied → ⊥
-    by A.Done e = cc
-    by (A.Added k) e = cc
+no_value (Some x) (C.Assert text) index name version rows is = cc is
+no_value (Some x) call index name version rows is = cc is
 
 value_asked : (past : List Update) (state : State) (shape : Shape) (index : ℕ) (name : List ℕ) (version : ℕ)
     (rows : List NamedRow)
@@ -78,26 +75,33 @@ value_asked past state (Calls s call) index name version rows is =
     absurd (no_value (session_of state s) call index name version rows is)
 value_asked past state (Updates (AddText text)) index name version rows is = absurd (let e = is.2 in cc e)
 value_asked past state (Updates (DropId k)) index name version rows is = absurd (let e = is.1 in cc e)
-value_asked past state (Updates (ApplyBlock block)) index name version rows is = absurd (let e = is.2.exact in cc e)
+value_asked past state (Updates (ApplyBlock block)) index name version rows is =
+    absurd (let e = (batch-answered 0 past state block (Value index name version rows) is).batch.exact in cc e)
 value_asked past state (Looks ForOpen) index name version rows is = absurd (cc is)
 value_asked past state (Looks (ForPin s)) index name version rows is = absurd (cc is)
 value_asked past state (Looks (ForPinAt s v)) index name version rows is = absurd (let e = is.1 in cc e)
-value_asked past state (Looks (ForNews s)) index name version rows is = absurd (let e = is.news.exact in cc e)
+value_asked past state (Looks (ForNews s)) index name version rows is =
+    absurd (let e = (news-answered 0 past state s (Value index name version rows) is).news.exact in cc e)
 value_asked past state (Looks (ForLog n)) index name version rows is = absurd (let e = is.1 in cc e)
 value_asked past state (Asks WithProof s names) index name version rows is =
-    let same : index ≡ is.answer.level = ap (λ r. index_of r 0) is.answer.exact in
+    let a = question-answered 0 past state WithProof s names (Value index name version rows) is in
+    let same : index ≡ a.answer.level = ap (λ r. index_of r 0) a.answer.exact in
     record {
       s = s;
       names = names;
-      session = is.session;
-      values = is.values;
+      session = a.session;
+      values = a.values;
       asked = refl;
-      found = is.found;
-      named = is.named;
-      least = subst (λ (n : ℕ). IsPolicyLevel (equations_of is.session is.values) n) (sym same) is.answer.least;
+      found = a.found;
+      named = a.named;
+      least = subst (λ (n : ℕ). IsPolicyLevel (equations_of a.session a.values) n) (sym same) a.answer.least;
     }
-value_asked past state (Asks WithCritical s names) index name version rows is = absurd (let e = is.answer.exact in cc e)
-value_asked past state (Asks ToKeep s names) index name version rows is = absurd (let e = is.answer.exact in cc e)
+value_asked past state (Asks WithCritical s names) index name version rows is =
+    let a = question-answered 0 past state WithCritical s names (Value index name version rows) is in
+    absurd (let e = a.answer.exact in cc e)
+value_asked past state (Asks ToKeep s names) index name version rows is =
+    let a = question-answered 0 past state ToKeep s names (Value index name version rows) is in
+    absurd (let e = a.answer.exact in cc e)
 value_asked past state (Controls control) index name version rows is = absurd (cc is)
 value_asked past state (AtFault fault) index name version rows is = absurd is
 

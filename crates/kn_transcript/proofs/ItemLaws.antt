@@ -3,6 +3,7 @@ use Rattle.std.proofs.Common.{◌≡◌, ◌⊎◌, ℕ, zero, suc, ◌+◌, ◌
 use Rattle.std.proofs.Common.{take, Option, Some, None, refl, sym, ap, ◌∙◌, arith, inl, inr, subst, append_assoc}
 use Rattle.std.proofs.Common.{length-append}
 use Rattle.std.specs.Prelude.{◌==◌, ◌||◌, not, slice_get, option_map, IsSome, if◌then◌else◌}
+use Rattle.std.specs.Option.{option_or}
 use Rattle.std.specs.List.{list_any, AllByRecursion}
 use Rattle.std.specs.Str.{bytes_eq}
 use Rattle.std.proofs.lemmas.Bool.{or_cases}
@@ -18,7 +19,7 @@ use Rattle.kn_reply.specs.declared.refusal.Refusal.TheVariants as R
 use Rattle.kn_reply.specs.declared.refusal.ItemRefusal.{ItemRefusal}
 use Rattle.kn_reply.specs.declared.refusal.ItemRefusal.TheVariants as I
 use Rattle.kn_reply.specs.Logs.{item_of}
-use Rattle.kn_daemon.specs.Daemon.{DaemonConfig, item_refusal, found_item, refusal_from, refusal_at_verdict}
+use Rattle.kn_daemon.specs.Daemon.{DaemonConfig, item_refusal, refusal_from, refusal_at_verdict}
 use Rattle.kn_daemon.proofs.Reading.{reading-admits_item}
 use Rattle.kn_transcript.specs.declared.fault.TheConstants.{AUTH_FAULTS}
 use Rattle.kn_transcript.specs.declared.items.ReadItems.{ReadItems}
@@ -37,10 +38,10 @@ behind_admitted g number [] rest e =
 behind_admitted g number (item ∷ front) rest e =
     by (item_refusal g item) e (λ none. behind_admitted g (number + 1) front rest none)
   where
-    by : (o : Option ItemRefusal) → found_item number o (refusal_from g (number + 1) front) ≡ None
+    by : (o : Option ItemRefusal) → option_or (option_map (R.Item number) o) (refusal_from g (number + 1) front) ≡ None
         → (refusal_from g (number + 1) front ≡ None
         → refusal_from g (number + 1) (front ++ rest) ≡ refusal_from g (number + 1 + length front) rest)
-        → found_item number o (refusal_from g (number + 1) (front ++ rest))
+        → option_or (option_map (R.Item number) o) (refusal_from g (number + 1) (front ++ rest))
         ≡ refusal_from g (number + length (item ∷ front)) rest
     by None e later =
         let more : number + 1 + length front ≡ number + length (item ∷ front) = omega arith in
@@ -54,9 +55,10 @@ found_in_front g number [] rest told e = absurd (cc e)
 found_in_front g number (item ∷ front) rest told e =
     by (item_refusal g item) e (λ later. found_in_front g (number + 1) front rest told later)
   where
-    by : (o : Option ItemRefusal) → found_item number o (refusal_from g (number + 1) front) ≡ Some told
+    by : (o : Option ItemRefusal)
+        → option_or (option_map (R.Item number) o) (refusal_from g (number + 1) front) ≡ Some told
         → (refusal_from g (number + 1) front ≡ Some told → refusal_from g (number + 1) (front ++ rest) ≡ Some told)
-        → found_item number o (refusal_from g (number + 1) (front ++ rest)) ≡ Some told
+        → option_or (option_map (R.Item number) o) (refusal_from g (number + 1) (front ++ rest)) ≡ Some told
     by None e later = later e
     by (Some inner) e later = e
 
@@ -77,7 +79,7 @@ repeated_admitted g number (item ∷ front) text e any =
     by (item_refusal g item) refl e (λ none there. repeated_admitted g (number + 1) front text none there)
   where
     by : (o : Option ItemRefusal) → item_refusal g item ≡ o
-        → found_item number o (refusal_from g (number + 1) front) ≡ None
+        → option_or (option_map (R.Item number) o) (refusal_from g (number + 1) front) ≡ None
         → (refusal_from g (number + 1) front ≡ None → list_any (adds_text text) front ≡ true
         → item_refusal g (AddText text) ≡ None)
         → item_refusal g (AddText text) ≡ None
@@ -195,7 +197,8 @@ first_verdict g few front (item ∷ items) behind count before reads size =
           is_fault = u.is_fault;
           told_is = refl;
         },
-        ap (λ (o : Option ItemRefusal). found_item (length front + 1) o (refusal_from g (length front + 1 + 1) items))
+        ap (λ (o : Option ItemRefusal).
+            option_or (option_map (R.Item (length front + 1)) o) (refusal_from g (length front + 1 + 1) items))
             u.refused,
       )
     ]
@@ -209,14 +212,15 @@ first_verdict g few front (item ∷ items) behind count before reads size =
     here : item_refusal g item ≡ None
         → refusal_from g (length front + 1) (item ∷ items) ≡ refusal_from g (length (front ++ item ∷ []) + 1) items
     here none =
-        ap (λ (o : Option ItemRefusal). found_item (length front + 1) o (refusal_from g (length front + 1 + 1) items))
+        ap (λ (o : Option ItemRefusal).
+        option_or (option_map (R.Item (length front + 1)) o) (refusal_from g (length front + 1 + 1) items))
         none
         ∙ ap (λ (n : ℕ). refusal_from g (n + 1) items) (sym longer)
 
     admitted : item_refusal g item ≡ None → refusal_from g 1 (front ++ item ∷ []) ≡ None
     admitted none =
         let one : refusal_from g (1 + length front) (item ∷ []) ≡ None =
-        ap (λ (o : Option ItemRefusal). found_item (1 + length front) o None) none in
+        ap (λ (o : Option ItemRefusal). option_or (option_map (R.Item (1 + length front)) o) None) none in
         behind_admitted g 1 front (item ∷ []) before ∙ one
 
     later : item_refusal g item ≡ None
@@ -253,7 +257,7 @@ module _ (items : List BatchItem) (read : ReadItems) (r : AreRead items read) wh
       by (Some inner) (item, rest, is, refused) =
           let number : 1 + length r.front ≡ length read.items + 1 = omega (arith, count_is) in
           ap (refusal_from g (1 + length r.front)) is
-          ∙ ap (λ (o : Option ItemRefusal). found_item (1 + length r.front) o
+          ∙ ap (λ (o : Option ItemRefusal). option_or (option_map (R.Item (1 + length r.front)) o)
           (refusal_from g (1 + length r.front + 1) rest)) (refused g)
           ∙ ap (λ (n : ℕ). Some (R.Item n inner)) number
 
@@ -289,7 +293,7 @@ module _ (items : List BatchItem) (read : ReadItems) (r : AreRead items read) wh
           → refusal_from g number front ≡ None
       admitted number [] reads = refl
       admitted number (item ∷ front) reads =
-          ap (λ (o : Option ItemRefusal). found_item number o (refusal_from g (number + 1) front))
+          ap (λ (o : Option ItemRefusal). option_or (option_map (R.Item number) o) (refusal_from g (number + 1) front))
           (zero_admits g item reads.0 (λ text a is. silent text a))
           ∙ admitted (number + 1) front reads.1
 
@@ -336,14 +340,14 @@ module _ (text : List ℕ) (fault : ℕ) (is_fault : IsAuthFault fault) where
   refused_at number (item ∷ front) behind zero within reads there new =
       let same : number ≡ number + 0 = omega arith in
       ap (λ (o : Option ItemRefusal).
-      found_item number o (refusal_from (refusing text fault) (number + 1) (front ++ behind)))
+      option_or (option_map (R.Item number) o) (refusal_from (refusing text fault) (number + 1) (front ++ behind)))
       (text_refused item reads.0 (same_Some item (AddText text) there))
       ∙ ap (λ (n : ℕ). Some (R.Item n (I.Auth fault))) same
   refused_at number (item ∷ front) behind (suc place) within reads there new =
       let both = or_both (adds_text text item) (list_any (adds_text text) (take place (front ++ behind))) new in
       let more : number + 1 + place ≡ number + suc place = omega arith in
       ap (λ (o : Option ItemRefusal).
-      found_item number o (refusal_from (refusing text fault) (number + 1) (front ++ behind)))
+      option_or (option_map (R.Item number) o) (refusal_from (refusing text fault) (number + 1) (front ++ behind)))
       (other_admitted item reads.0 both.0)
       ∙ refused_at (number + 1) front behind place (omega (arith, within)) reads.1 there both.1
       ∙ ap (λ (n : ℕ). Some (R.Item n (I.Auth fault))) more

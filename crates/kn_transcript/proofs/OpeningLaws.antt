@@ -13,7 +13,8 @@ use Rattle.kn_reply.specs.declared.refusal.Refusal.TheVariants as R
 use Rattle.kn_reply.specs.declared.refusal.LimitWord.TheVariants as W
 use Rattle.kn_reply.specs.Replies.{Reply, Started, Number, PinnedAt, No, reply_text}
 use Rattle.kn_daemon.specs.Shapes.{Look, Looks, ForOpen, ForPin, ForPinAt}
-use Rattle.kn_daemon.specs.Daemon.{State, session_of, refuse_if, refusal_by, pinned_to}
+use Rattle.kn_daemon.specs.Daemon.{State, session_of, refuse_if, refusal_by, in_session, pinned_to}
+use Rattle.kn_daemon.proofs.Faults.{session-refusal}
 use Rattle.kn_transcript.specs.Followed.{history_behind}
 use Rattle.kn_transcript.specs.Judging.{IsBehind, Judges}
 use Rattle.kn_transcript.proofs.DueReplies.{refused_ok, placed_ok, done_ok}
@@ -79,6 +80,11 @@ module _ (past : List Update) (left : List ℕ) {X E : Type 0} (result : Result 
   Changes look = IfOk result
       (λ found. Judges past (state_with a is_admin) (Looks look) left past (state_with b is_admin) (view found))
 
+  -- the session is open
+  open_found : (s : ℕ) → fault_in s (session_in a.sessions s) (λ x. None) ≡ None
+      → in_session (session_in a.sessions s) (λ x. None) ≡ None
+  open_found s accepted = sym (session-refusal s (session_in a.sessions s) (λ x. None)) ∙ ap refusal_by accepted
+
   -- the session was started
   pub open_started : (s version : ℕ) (made : List Update) → made ≡ past → version ≡ length past
       → start_fault a.sessions ≡ None → s ≡ a.started + 1
@@ -103,7 +109,7 @@ module _ (past : List Update) (left : List ℕ) {X E : Type 0} (result : Result 
       let pinned : List Update → State = λ u. state_with (with_open_session a s (pin_at u)) is_admin in
       done_ok past (state_with a is_admin) (Looks (ForPin s)) left view (Number version) (state_with b is_admin) tt
       refl
-      (λ g. ap refusal_by accepted) refl refl (rw at refl)
+      (λ g. open_found s accepted) refl refl (rw at refl)
       (ap (λ (x : OpenSessions). state_with x is_admin) after ∙ ap pinned seen)
       (λ g reply other does. does.answered
       ∙ ap (λ (x : List Update). Number (length x)) (look_behind past (ForPin s) reply) ∙ rw at refl)
@@ -118,7 +124,7 @@ module _ (past : List Update) (left : List ℕ) {X E : Type 0} (result : Result 
   pin_at_done s version newest made retained at accepted after behind =
       done_ok past (state_with a is_admin) (Looks (ForPinAt s version)) left view (PinnedAt version newest)
       (state_with b is_admin)
-      tt refl (λ g. ap refusal_by accepted)
+      tt refl (λ g. open_found s accepted)
       (ap (λ (o : Option (List Update)). refuse_if (is_none o) (R.Retained (length past)) None) retained) refl
       (ap is_some retained, ap (PinnedAt version) at)
       (ap (λ (x : OpenSessions). state_with x is_admin) after ∙ ap (pinned_to (state_with a is_admin) s) (sym retained))

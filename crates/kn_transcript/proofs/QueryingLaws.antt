@@ -17,9 +17,9 @@ use Rattle.kn_reply_reader.specs.declared.value_reply.ValueReply.{ValueReply}
 use Rattle.kn_reply_reader.specs.Texts.{HasText}
 use Rattle.kn_reply_reader.specs.ValueReplies.{IsValueAt}
 use Rattle.kn_daemon.specs.Shapes.{Asks, WithProof}
-use Rattle.kn_daemon.specs.Daemon.{DaemonConfig, State, IsAnswered, IsAnswer, in_session, refusal_of_names}
-use Rattle.kn_daemon.specs.Daemon.{refusal_of_question}
-use Rattle.kn_daemon.specs.Daemon.{session_of, own_refusal}
+use Rattle.kn_daemon.specs.Daemon.{DaemonConfig, State, session_of, in_session, refusal_of_names, refusal_of_question}
+use Rattle.kn_daemon.specs.Daemon.{own_refusal, IsAnswer, Answers}
+use Rattle.kn_daemon.proofs.Answered.{is-there}
 use Rattle.kn_verify.proofs.Accepted.{answers_are_proved}
 use Rattle.kn_transcript.specs.Followed.{IsPermitted, history_behind}
 use Rattle.kn_transcript.specs.Judging.{IsBehind, Judges}
@@ -128,23 +128,20 @@ module _ (past : List Update) (now : State) (s : ℕ) (names left : List ℕ) (s
 
   -- a proved value is permitted
   value_answered : (read : ReadReply) → ProvesAnswer session values read
-      → IsAnswered now WithProof s names (value_of read)
-  value_answered read proved = record {
-    session = session;
-    values = values;
-    found = found;
-    named = named;
-    answer = record {
-      level = read.value;
-      rows = read.rows;
-      exact =
-          ap (λ (name : List ℕ). Value read.value name read.version read.rows) proved.to_query.name
-          ∙ ap (λ (version : ℕ). Value read.value (slice_index_or values read.value []) version read.rows)
-          proved.to_query.same_version;
-      proved = proved.proof;
-      least = proved.least;
-    };
-  }
+      → Answers 0 past now (Asks WithProof s names) (value_of read)
+  value_answered read proved =
+      is-there (λ x. IsSomeAnd (values_of names) (λ v. IsAnswer x v (value_of read))) (session_of now s) session found
+      (is-there (λ v. IsAnswer session v (value_of read)) (values_of names) values named
+      (record {
+        level = read.value;
+        rows = read.rows;
+        exact =
+            ap (λ (name : List ℕ). Value read.value name read.version read.rows) proved.to_query.name
+            ∙ ap (λ (version : ℕ). Value read.value (slice_index_or values read.value []) version read.rows)
+            proved.to_query.same_version;
+        proved = proved.proof;
+        least = proved.least;
+      }))
 
   value_permitted : (read : ReadReply) → ProvesAnswer session values read
       → IsPermitted past now (Asks WithProof s names) (value_of read) now
@@ -160,14 +157,14 @@ module _ (past : List Update) (now : State) (s : ℕ) (names left : List ℕ) (s
       (at.cut ∙ ap (λ (l : List ℕ). l ++ rest) at.read.spelled)
 
   -- an answer is a value that its rows prove
-  answered_proved : (reply : Reply) → IsAnswered now WithProof s names reply
+  answered_proved : (reply : Reply)
+      → IsSomeAnd (session_of now s) (λ x. IsSomeAnd (values_of names) (λ v. IsAnswer x v reply))
       → (read : ReadReply) × (reply ≡ value_of read) × ProvesAnswer session values read
   answered_proved reply a =
-      let same_session : a.session ≡ session = same_Some a.session session (sym a.found ∙ found) in
-      let same_values : a.values ≡ values = same_Some a.values values (sym a.named ∙ named) in
       answers_are_proved session values reply (filled names values named)
-      (subst (λ (x : Session). IsAnswer x values reply) same_session
-      (subst (λ (v : List (List ℕ)). IsAnswer a.session v reply) same_values a.answer))
+      (subst (λ (o : Option (List (List ℕ))). IsSomeAnd o (λ v. IsAnswer session v reply)) named
+      (subst (λ (o : Option Session). IsSomeAnd o (λ x. IsSomeAnd (values_of names) (λ v. IsAnswer x v reply))) found
+      a))
 
   -- only a proved value is permitted
   pub value_missed : JudgesValue session values left None

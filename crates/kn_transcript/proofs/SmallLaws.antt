@@ -13,9 +13,7 @@ use Rattle.kn_session.specs.Calls as C
 use Rattle.kn_daemon.specs.Shapes.{Look, ForOpen, ForPin, ForPinAt, ForNews, ForLog, Question, WithProof}
 use Rattle.kn_daemon.specs.Shapes.{WithCritical, ToKeep, Control, ShowSecret, Leave, Shape, Calls, Looks, Asks}
 use Rattle.kn_daemon.specs.Shapes.{Controls, shape_of}
-use Rattle.kn_daemon.specs.Daemon.{DaemonConfig, State, first_state, pinned_to, state_after_look, state_keeping}
-use Rattle.kn_daemon.specs.Daemon.{state_after_question}
-use Rattle.kn_daemon.specs.Daemon.{state_after_control, state_after, Permits}
+use Rattle.kn_daemon.specs.Daemon.{DaemonConfig, State, first_state, pinned_to, state_keeping, state_after, Permits}
 use Rattle.kn_daemon.specs.Underway.{IsSmall}
 use Rattle.kn_transcript.specs.Followed.{Answered, Follows, history_behind}
 
@@ -66,7 +64,7 @@ module _ (P Q : Session → Type 0) where
     all-called s call xs h = all-map (λ x. x.number == s) (call_change call) (keeps.calls call) keeps.stays xs h
 
     all-looked : (state : State) (look : Look) → AllByRecursion P state.sessions
-        → AllByRecursion Q (state_after_look past state look).sessions
+        → AllByRecursion Q (state_after past state (Looks look)).sessions
     all-looked state ForOpen h =
         all-push keeps.stays state.sessions (started_session (state.started + 1) past) h
         (keeps.starts (state.started + 1))
@@ -83,7 +81,7 @@ module _ (P Q : Session → Type 0) where
     all-looked state (ForLog n) h = all-weaker keeps.stays state.sessions h
 
     all-questioned : (state : State) (question : Question) (s : ℕ) (names : List ℕ) → AllByRecursion P state.sessions
-        → AllByRecursion Q (state_after_question state question s names).sessions
+        → AllByRecursion Q (state_after past state (Asks question s names)).sessions
     all-questioned state WithProof s names h = all-weaker keeps.stays state.sessions h
     all-questioned state WithCritical s names h = all-weaker keeps.stays state.sessions h
     all-questioned state ToKeep s names h = by (values_of names)
@@ -94,7 +92,7 @@ module _ (P Q : Session → Type 0) where
             all-map (λ x. x.number == s) (watch_with values) (keeps.watches values) keeps.stays state.sessions h
 
     all-controlled : (state : State) (control : Control) → AllByRecursion P state.sessions
-        → AllByRecursion Q (state_after_control state control).sessions
+        → AllByRecursion Q (state_after past state (Controls control)).sessions
     all-controlled state (ShowSecret bytes) h = all-weaker keeps.stays state.sessions h
     all-controlled state Leave h = all-weaker keeps.stays state.sessions h
 
@@ -156,7 +154,7 @@ made-keeps n past = record {
 }
 
 started-looked : (past : List Update) (state : State) (look : Look)
-    → (state_after_look past state look).started ≤ state.started + 1
+    → (state_after past state (Looks look)).started ≤ state.started + 1
 started-looked past state ForOpen = omega arith
 started-looked past state (ForPin s) = omega arith
 started-looked past state (ForPinAt s version) = by (retained_version past version)
@@ -167,27 +165,27 @@ started-looked past state (ForPinAt s version) = by (retained_version past versi
 started-looked past state (ForNews s) = omega arith
 started-looked past state (ForLog n) = omega arith
 
-started-questioned : (state : State) (question : Question) (s : ℕ) (names : List ℕ)
-    → (state_after_question state question s names).started ≤ state.started + 1
-started-questioned state WithProof s names = omega arith
-started-questioned state WithCritical s names = omega arith
-started-questioned state ToKeep s names = by (values_of names)
+started-questioned : (past : List Update) (state : State) (question : Question) (s : ℕ) (names : List ℕ)
+    → (state_after past state (Asks question s names)).started ≤ state.started + 1
+started-questioned past state WithProof s names = omega arith
+started-questioned past state WithCritical s names = omega arith
+started-questioned past state ToKeep s names = by (values_of names)
   where
     by : (values : Option (List (List ℕ))) → (state_keeping state s values).started ≤ state.started + 1
     by None = omega arith
     by (Some values) = omega arith
 
-started-controlled : (state : State) (control : Control) → (state_after_control state control).started ≤ state.started
-    + 1
-started-controlled state (ShowSecret bytes) = omega arith
-started-controlled state Leave = omega arith
+started-controlled : (past : List Update) (state : State) (control : Control)
+    → (state_after past state (Controls control)).started ≤ state.started + 1
+started-controlled past state (ShowSecret bytes) = omega arith
+started-controlled past state Leave = omega arith
 
 started-changed : (past : List Update) (state : State) (shape : Shape)
     → (state_after past state shape).started ≤ state.started + 1
 started-changed past state (Calls s call) = omega arith
 started-changed past state (Looks look) = started-looked past state look
-started-changed past state (Asks question s names) = started-questioned state question s names
-started-changed past state (Controls control) = started-controlled state control
+started-changed past state (Asks question s names) = started-questioned past state question s names
+started-changed past state (Controls control) = started-controlled past state control
 started-changed past state shape = omega arith
 
 started-permitted : (g : DaemonConfig) (caller : ℕ) (past : List Update) (old : State) (shape : Shape) (reply : Reply)

@@ -1,7 +1,7 @@
 -- A reply judged where what an authenticator says of a text may be the reply.
-use Rattle.std.proofs.Common.{◌≡◌, ◌≢◌, ◌⊎◌, ℕ, ◌≤◌, Bool, true, false, List, ◌++◌, Option, Some, None, refl, ap, ◌∙◌}
+use Rattle.std.proofs.Common.{◌≡◌, ◌≢◌, ◌⊎◌, ℕ, ◌≤◌, true, false, List, ◌++◌, Option, Some, None, refl, ap, ◌∙◌}
 use Rattle.std.proofs.Common.{arith, inl, inr, subst, sym}
-use Rattle.std.specs.Prelude.{Result, Ok, Err, IfOk, not}
+use Rattle.std.specs.Prelude.{Result, Ok, Err, IfOk}
 use Rattle.kn_trees.specs.declared.assertion.Assertion.{Assertion}
 use Rattle.kn_history.specs.declared.update.Update.{Update}
 use Rattle.kn_reply.specs.declared.refusal.Refusal.{Refusal}
@@ -9,8 +9,8 @@ use Rattle.kn_reply.specs.declared.refusal.Refusal.TheVariants as R
 use Rattle.kn_reply.specs.Replies.{Reply, No, reply_text}
 use Rattle.kn_reply_reader.specs.Texts.{HasText}
 use Rattle.kn_daemon.specs.Shapes.{Updating, Shape, Updates}
-use Rattle.kn_daemon.specs.Daemon.{DaemonConfig, State, IsUpdated, own_refusal, placed_refusal, refusal_of_update}
-use Rattle.kn_daemon.specs.Daemon.{refuse_if}
+use Rattle.kn_daemon.specs.Daemon.{DaemonConfig, State, Answers, own_refusal, placed_refusal}
+use Rattle.kn_daemon.proofs.Admins.{others-refused}
 use Rattle.kn_transcript.specs.declared.fault.TheConstants.{AUTH_FAULTS}
 use Rattle.kn_transcript.specs.Followed.{IsPermitted, history_behind}
 use Rattle.kn_transcript.specs.Judging.{IsBehind, Judges}
@@ -63,28 +63,22 @@ pub update_unshown : (past : List Update) (old : State) (update : Updating) (lef
     → IfOk result (λ found. IsBehind left (reply_text (No R.Admin)) (view found))
     → IfOk result (λ found. Judges past old (Updates update) left past old (view found))
 update_unshown past old update left result view out behind =
-    refused_ok past old (Updates update) left view R.Admin (λ g. refuses g) result behind
-  where
-    refuses : (g : DaemonConfig) → own_refusal g old (Updates update) ≡ Some R.Admin
-    refuses g = ap (λ (b : Bool). refuse_if (not b) R.Admin (refusal_of_update g update)) out
+    refused_ok past old (Updates update) left view R.Admin (λ g. (others-refused g old update 0 out).0) result behind
 
 module _ (past : List Update) (old : State) (update : Updating) (left : List ℕ) (V : Refusal → Type 0)
-    (admin : old.is_admin ≡ true) (none : NoneStands past old (Updates update) left V) where
-  own_of : (g : DaemonConfig) (o : Option Refusal) → refusal_of_update g update ≡ o
-      → own_refusal g old (Updates update) ≡ o
-  own_of g o is = ap (λ (b : Bool). refuse_if (not b) R.Admin (refusal_of_update g update)) admin ∙ is
-
+    (none : NoneStands past old (Updates update) left V) where
   -- such a refusal is found, or else this
   abbrev pub RefusesOr : Option Refusal → Type 0
   RefusesOr o = (g : DaemonConfig) → HasFaults g
-      → ((told : Refusal) × V told × (refusal_of_update g update ≡ Some told)) ⊎ (refusal_of_update g update ≡ o)
+      → ((told : Refusal) × V told × (own_refusal g old (Updates update) ≡ Some told))
+      ⊎ (own_refusal g old (Updates update) ≡ o)
 
   only_or : (o : Option Refusal) (due : Reply) → RefusesOr o
       → ((g : DaemonConfig) → own_refusal g old (Updates update) ≡ o → OnlyAt g past old (Updates update) due)
       → OnlyOr past old (Updates update) left V due
   only_or o due may next g few = elim (may g few) [
-    | inl r ↦ inl (r.0, r.1, own_only past old (Updates update) r.0 g (own_of g (Some r.0) r.2))
-    | inr e ↦ inr (next g (own_of g o e))
+    | inl r ↦ inl (r.0, r.1, own_only past old (Updates update) r.0 g r.2)
+    | inr e ↦ inr (next g e)
   ]
 
   module _ {X E : Type 0} (result : Result X E) (view : X → Option (List ℕ)) where
@@ -92,36 +86,38 @@ module _ (past : List Update) (old : State) (update : Updating) (left : List ℕ
     Keeps = IfOk result (λ found. Judges past old (Updates update) left past old (view found))
 
     -- the request is refused whatever is said of its texts, or earlier
-    pub update_refused : (refusal : Refusal) → refusal_of_update (config_at 0) update ≡ Some refusal
+    pub update_refused : (refusal : Refusal) → own_refusal (config_at 0) old (Updates update) ≡ Some refusal
         → RefusesOr (Some refusal) → IfOk result (λ found. IsBehind left (reply_text (No refusal)) (view found)) → Keeps
     update_refused refusal zero may behind =
         judged_or past old (Updates update) left V past old result view none (No refusal) tt
-        (own_permitted past old (Updates update) refusal 0 (omega arith) (own_of (config_at 0) (Some refusal) zero))
+        (own_permitted past old (Updates update) refusal 0 (omega arith) zero)
         (sym (refused-behind past (Updates update) refusal))
         (only_or (Some refusal) (No refusal) may (λ g own. own_only past old (Updates update) refusal g own)) behind
 
     -- the history refuses it
-    pub update_placed : (refusal : Refusal) → refusal_of_update (config_at 0) update ≡ None → RefusesOr None
+    pub update_placed : (refusal : Refusal) → own_refusal (config_at 0) old (Updates update) ≡ None → RefusesOr None
         → placed_refusal past (Updates update) ≡ Some refusal
-        → ((reply : Reply) → IsUpdated 0 (history_behind past (Updates update) reply) update reply → ⊥)
+        → ((reply : Reply) → Answers 0 (history_behind past (Updates update) reply) old (Updates update) reply → ⊥)
         → IfOk result (λ found. IsBehind left (reply_text (No refusal)) (view found)) → Keeps
     update_placed refusal zero may placed never behind =
         judged_or past old (Updates update) left V past old result view none (No refusal) tt
-        (placed_permitted past old (Updates update) refusal (own_of (config_at 0) None zero) placed)
+        (placed_permitted past old (Updates update) refusal zero placed)
         (sym (refused-behind past (Updates update) refusal))
         (only_or None (No refusal) may (λ g own. placed_only past old (Updates update) refusal g own placed
         (λ reply other does. never reply does.answered))) behind
 
     -- it is made
     pub update_made : (history : List Update) (due : Reply) → HasText due → is_acceptance due ≡ true
-        → refusal_of_update (config_at 0) update ≡ None → RefusesOr None → placed_refusal past (Updates update) ≡ None
-        → history ≡ history_behind past (Updates update) due → IsUpdated 0 history update due
-        → ((reply : Reply) → IsUpdated 0 (history_behind past (Updates update) reply) update reply → reply ≡ due)
+        → own_refusal (config_at 0) old (Updates update) ≡ None → RefusesOr None
+        → placed_refusal past (Updates update) ≡ None
+        → history ≡ history_behind past (Updates update) due → Answers 0 history old (Updates update) due
+        → ((reply : Reply) → Answers 0 (history_behind past (Updates update) reply) old (Updates update) reply
+        → reply ≡ due)
         → IfOk result (λ found. IsBehind left (reply_text due) (view found))
         → IfOk result (λ found. Judges past old (Updates update) left history old (view found))
     update_made history due text is zero may placed made updated only behind =
         judged_or past old (Updates update) left V history old result view none due text
-        (done_permitted past old (Updates update) due old is (own_of (config_at 0) None zero)
-        (subst (λ (h : List Update). IsUpdated 0 h update due) made updated) refl) made
+        (done_permitted past old (Updates update) due old is zero
+        (subst (λ (h : List Update). Answers 0 h old (Updates update) due) made updated) refl) made
         (only_or None due may (λ g own. done_only past old (Updates update) due g own placed
         (λ reply other does. only reply does.answered))) behind

@@ -2,7 +2,7 @@
 ghost use Rattle.std.specs.Prelude.{◌≡◌, ◌≤◌, List, IfOk, length, option_map, true};
 ghost use Rattle.kn_base.specs.declared.limits.TheConstants.{ASSERTION_BYTES};
 ghost use Rattle.kn_history.specs.declared.update.Update.{Update};
-ghost use Rattle.kn_session.specs.Calls.{Set, call_of, asserted};
+ghost use Rattle.kn_session.specs.Calls.{Set, call_of, asserted_text};
 ghost use Rattle.kn_wire.specs.Hex.{bytes_of_hex};
 ghost use Rattle.kn_wire.specs.Requests.{is_hex};
 ghost use Rattle.kn_daemon.specs.Shapes.{Calls};
@@ -11,7 +11,7 @@ ghost use Rattle.kn_transcript.specs.Judging.{state_of, HasRoom, Judges};
 use crate::connection::Connection;
 use crate::matching::{behind_refusal, behind_reply};
 use kn_base::NoMemory;
-use kn_refusals::{refusal_of_call, reply_of_applied};
+use kn_refusals::{refusal_of_call_fault, reply_of_applied};
 use kn_session::Call;
 use kn_wire::decode_hex;
 use std::alloc::Global;
@@ -25,13 +25,13 @@ pub(crate) fn judge_call<'a>(
     left: &'a [u8],
 ) -> Result<Option<&'a [u8]>, NoMemory>
     requires room { HasRoom (state_of connection.old) }
-    requires short { length (asserted (call_of call)) ≤ ASSERTION_BYTES }
+    requires short { length (asserted_text (call_of call)) ≤ ASSERTION_BYTES }
     ensures judged { (past : List Update) → IfOk result (λ found. Judges past (state_of connection.old)
         (Calls s (call_of call.entry)) left.now past (state_of connection.new) (option_map (λ rest. rest.now) found)) }
 {
     match connection.sessions.apply(alloc, s, call) {
         Ok(applied) => behind_reply(alloc, left, &reply_of_applied(applied)),
-        Err(fault) => behind_refusal(alloc, left, refusal_of_call(&fault)),
+        Err(fault) => behind_refusal(alloc, left, refusal_of_call_fault(&fault)),
     }
 }
 

@@ -11,8 +11,8 @@ use Rattle.kn_daemon.specs.Daemon.{State, state_after}
 use Rattle.kn_daemon.specs.Linearized.{Exchange, requests_in}
 use Rattle.kn_worked.specs.Texts.{credential_text}
 use Rattle.kn_worked.specs.Connections.{policy_history, longer_history, BobIsAnswered}
-use Rattle.kn_worked.proofs.Levels.{two_values, policy_row, alice_row, bob_level, bob_proof, bob_session, bob_question}
-use Rattle.kn_worked.proofs.Levels.{longer_level, longer_proof, later_session, later_question, policy_valid}
+use Rattle.kn_worked.proofs.Levels.{policy_row, alice_row, bob_level, bob_proof, bob_question}
+use Rattle.kn_worked.proofs.Levels.{longer_level, longer_proof, later_question, policy_valid}
 use Rattle.kn_worked.proofs.Admin.{after_open, after_admin, credential_valid, admitted, same_caller}
 use Rattle.kn_worked.proofs.Turns.{turns_stand, all_answered}
 
@@ -65,17 +65,11 @@ bob_is_answered g caller secret verdict = record {
             record {
               accepted = refl;
               answered = record {
-                session = bob_session;
-                values = two_values;
-                found = refl;
-                named = refl;
-                answer = record {
-                  level = 0;
-                  rows = [];
-                  exact = refl;
-                  proved = subst (λ (e : Equations). IsProof e [] 0) (sym bob_question) bob_proof;
-                  least = subst (λ (e : Equations). IsPolicyLevel e 0) (sym bob_question) bob_level;
-                };
+                level = 0;
+                rows = [];
+                exact = refl;
+                proved = subst (λ (e : Equations). IsProof e [] 0) (sym bob_question) bob_proof;
+                least = subst (λ (e : Equations). IsPolicyLevel e 0) (sym bob_question) bob_level;
               };
               next = refl;
             },
@@ -87,19 +81,13 @@ bob_is_answered g caller secret verdict = record {
                 record {
                   accepted = refl;
                   answered = record {
-                    session = later_session caller;
-                    values = two_values;
-                    found = refl;
-                    named = refl;
-                    answer = record {
-                      level = 1;
-                      rows = alice_row ∷ policy_row ∷ [];
-                      exact = refl;
-                      proved =
-                          subst (λ (e : Equations). IsProof e (alice_row ∷ policy_row ∷ []) 1)
-                          (sym (later_question caller)) longer_proof;
-                      least = subst (λ (e : Equations). IsPolicyLevel e 1) (sym (later_question caller)) longer_level;
-                    };
+                    level = 1;
+                    rows = alice_row ∷ policy_row ∷ [];
+                    exact = refl;
+                    proved =
+                        subst (λ (e : Equations). IsProof e (alice_row ∷ policy_row ∷ []) 1)
+                        (sym (later_question caller)) longer_proof;
+                    least = subst (λ (e : Equations). IsPolicyLevel e 1) (sym (later_question caller)) longer_level;
                   };
                   next = refl;
                 },

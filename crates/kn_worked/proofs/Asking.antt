@@ -9,7 +9,7 @@ use Rattle.kn_daemon.specs.Shapes.{shape_of}
 use Rattle.kn_daemon.specs.Daemon.{State, first_state, state_after}
 use Rattle.kn_daemon.specs.Linearized.{Exchange, requests_in}
 use Rattle.kn_worked.specs.Connections.{policy_history, AliceIsAnswered}
-use Rattle.kn_worked.proofs.Levels.{two_values, policy_row, alice_level, alice_proof, alice_session, alice_question}
+use Rattle.kn_worked.proofs.Levels.{policy_row, alice_level, alice_proof, alice_question}
 use Rattle.kn_worked.proofs.Levels.{policy_valid}
 use Rattle.kn_worked.proofs.Turns.{turns_stand, all_answered}
 
@@ -43,17 +43,11 @@ alice_is_answered g caller = record {
         record {
           accepted = refl;
           answered = record {
-            session = alice_session;
-            values = two_values;
-            found = refl;
-            named = refl;
-            answer = record {
-              level = 1;
-              rows = policy_row ∷ [];
-              exact = refl;
-              proved = subst (λ (e : Equations). IsProof e (policy_row ∷ []) 1) (sym alice_question) alice_proof;
-              least = subst (λ (e : Equations). IsPolicyLevel e 1) (sym alice_question) alice_level;
-            };
+            level = 1;
+            rows = policy_row ∷ [];
+            exact = refl;
+            proved = subst (λ (e : Equations). IsProof e (policy_row ∷ []) 1) (sym alice_question) alice_proof;
+            least = subst (λ (e : Equations). IsPolicyLevel e 1) (sym alice_question) alice_level;
           };
           next = refl;
         },

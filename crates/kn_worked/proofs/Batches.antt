@@ -1,6 +1,7 @@
 -- That the connections of an administrator who asks for batches are served as they say.
 use Rattle.std.proofs.Common.{ℕ, ◌≡◌, [], ◌∷◌, ◌++◌, List, codes, refl, ap, le_refl, arith, Option, None}
 use Rattle.std.specs.Fmt.{digits}
+use Rattle.std.specs.Prelude.{option_map}
 use Rattle.std.specs.Option.{option_or}
 use Rattle.kn_wire.specs.Items.{AddText, DropId}
 use Rattle.kn_wire.specs.Requests.{Open, Admin, Drop, Pin, Batch}
@@ -10,7 +11,7 @@ use Rattle.kn_reply.specs.declared.refusal.Refusal.{Refusal}
 use Rattle.kn_reply.specs.declared.refusal.Refusal.TheVariants as R
 use Rattle.kn_reply.specs.Replies.{Done, Started, Number, Batched, No}
 use Rattle.kn_daemon.specs.Shapes.{shape_of}
-use Rattle.kn_daemon.specs.Daemon.{DaemonConfig, State, state_after, found_item, refusal_from, placed_refusal}
+use Rattle.kn_daemon.specs.Daemon.{DaemonConfig, State, state_after, refusal_from, placed_refusal}
 use Rattle.kn_daemon.specs.Linearized.{Exchange, requests_in}
 use Rattle.kn_worked.specs.Texts.{credential_text, credential_assertion}
 use Rattle.kn_worked.specs.Connections.{policy_history, batched_history, BatchIsRefused, BatchIsMade}
@@ -32,7 +33,7 @@ after_later_pin caller = state_after (batched_history caller) after_admin (shape
 pub items_admitted : (g : DaemonConfig) (k : ℕ) → g.verdict credential_text credential_assertion ≡ 0
     → refusal_from g 1 (AddText credential_text ∷ DropId k ∷ []) ≡ None
 items_admitted g k verdict =
-    ap (λ (o : Option ItemRefusal). found_item 1 o (refusal_from g 2 (DropId k ∷ [])))
+    ap (λ (o : Option ItemRefusal). option_or (option_map (R.Item 1) o) (refusal_from g 2 (DropId k ∷ [])))
     (admitted I.Read I.Auth g verdict)
 
 abbrev refused_exchanges : List Exchange
@@ -104,11 +105,12 @@ batch_is_made g caller secret verdict = record {
         after_admin,
         record {
           accepted = items_admitted g 1 verdict;
-          answered = (
-            AddText credential_text ∷ DropId 1 ∷ [],
-            refl,
-            record { before = policy_history; ends = refl; accepted = rw credential_valid refl; exact = refl },
-          );
+          answered = record {
+            first = 2;
+            committed = record { before = policy_history; ends = refl; accepted = rw credential_valid refl };
+            next = refl;
+            exact = refl;
+          };
           next = refl;
         },
         (

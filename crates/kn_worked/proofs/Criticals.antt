@@ -1,6 +1,6 @@
 -- That the connections that ask for critical assertions are served as they say.
 use Rattle.std.proofs.Common.{rules, ℕ, ◌≡◌, ◌≤◌, [], ◌∷◌, ◌++◌, List, codes, refl, sym, subst, ap, ◌∙◌, inl, inr}
-use Rattle.std.proofs.Common.{le_refl, arith, None, Some, Result, if◌then◌else◌, option_and_then}
+use Rattle.std.proofs.Common.{le_refl, arith, None, Some, Result, if◌then◌else◌}
 use Rattle.std.specs.Fmt.{digits}
 use Rattle.std.specs.Str.{bytes_eq}
 use Rattle.std.specs.Result.{result_ok}
@@ -20,11 +20,13 @@ use Rattle.kn_meaning.specs.Equations.{Part, Equations, round, equations_over, I
 use Rattle.kn_meaning.specs.Examples as M
 use Rattle.kn_meaning.proofs.Walks.{formula_level_who}
 use Rattle.kn_session.specs.Sessions.{Session, started_session}
-use Rattle.kn_session.specs.Calls.{text_fault, own_fault, private_fault}
+use Rattle.kn_session.specs.Calls.{private_fault}
+use Rattle.kn_reply.specs.declared.refusal.Refusal.TheVariants as R
 use Rattle.kn_wire.specs.Requests.{Open, Assert, Auth, Critical as ForCritical}
 use Rattle.kn_reply.specs.Replies.{Done, Started, PrivateAdded, Critical}
 use Rattle.kn_daemon.specs.Shapes.{shape_of}
-use Rattle.kn_daemon.specs.Daemon.{State, part_by, asked_of, session_parts, refusal_of_nodes, refusal_of_call}
+use Rattle.kn_daemon.specs.Daemon.{State, part_by, asked_of, session_parts, refusal_of_nodes, refusal_at_reading}
+use Rattle.kn_daemon.specs.Daemon.{refusal_by}
 use Rattle.kn_daemon.specs.Daemon.{first_state, state_after}
 use Rattle.kn_daemon.specs.Linearized.{Exchange, requests_in}
 use Rattle.kn_daemon.proofs.LevelReplies.{one-level}
@@ -138,8 +140,8 @@ both_are_critical g caller = record {
       after_assert,
       record {
         accepted =
-            ap (λ (r : Result Assertion ReadFault). option_and_then refusal_of_call
-            (text_fault r (λ a. own_fault (private_fault credential_text a opened_session))))
+            ap (λ (r : Result Assertion ReadFault).
+            refusal_at_reading R.Read r (λ a. refusal_by (private_fault credential_text a opened_session)))
             credential_reading;
         answered = refl;
         next = refl;
@@ -154,21 +156,15 @@ both_are_critical g caller = record {
                 subst (λ parts. refusal_of_nodes (equation_nodes (equations_over bob_asked parts)) ≡ None)
                 (sym own_session_parts) both_few;
             answered = record {
-              session = own_session;
-              values = two_values;
-              found = refl;
-              named = refl;
-              answer = record {
-                level = 1;
-                ids = Shared 1 ∷ Private 1 ∷ [];
-                exact = refl;
-                least =
-                    subst (λ parts. IsPolicyLevel (equations_over bob_asked parts) 1)
-                    (sym own_session_parts) both_level;
-                critical =
-                    subst (λ parts. AreCritical bob_asked parts parts (Shared 1 ∷ Private 1 ∷ []))
-                    (sym own_session_parts) both_critical;
-              };
+              level = 1;
+              ids = Shared 1 ∷ Private 1 ∷ [];
+              exact = refl;
+              least =
+                  subst (λ parts. IsPolicyLevel (equations_over bob_asked parts) 1)
+                  (sym own_session_parts) both_level;
+              critical =
+                  subst (λ parts. AreCritical bob_asked parts parts (Shared 1 ∷ Private 1 ∷ []))
+                  (sym own_session_parts) both_critical;
             };
             next = refl;
           },
@@ -300,20 +296,14 @@ neither_is_critical g caller = record {
               subst (λ parts. refusal_of_nodes (equation_nodes (equations_over alice_asked parts)) ≡ None)
               (sym doubled_session_parts) doubled_few;
           answered = record {
-            session = doubled_session;
-            values = two_values;
-            found = refl;
-            named = refl;
-            answer = record {
-              level = 1;
-              ids = [];
-              exact = refl;
-              least =
-                  subst (λ parts. IsPolicyLevel (equations_over alice_asked parts) 1)
-                  (sym doubled_session_parts) doubled_level;
-              critical =
-                  subst (λ parts. AreCritical alice_asked parts parts []) (sym doubled_session_parts) neither_critical;
-            };
+            level = 1;
+            ids = [];
+            exact = refl;
+            least =
+                subst (λ parts. IsPolicyLevel (equations_over alice_asked parts) 1)
+                (sym doubled_session_parts) doubled_level;
+            critical =
+                subst (λ parts. AreCritical alice_asked parts parts []) (sym doubled_session_parts) neither_critical;
           };
           next = refl;
         },

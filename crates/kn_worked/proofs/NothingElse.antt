@@ -12,7 +12,6 @@ use Rattle.kn_meaning.specs.Equations.{Equations, Statement, IsPolicyLevel}
 use Rattle.kn_meaning.specs.Examples as M
 use Rattle.kn_meaning.specs.Proofs.{IsRow, IsProof}
 use Rattle.kn_meaning.proofs.Walks.{formula_level_who}
-use Rattle.kn_session.specs.Sessions.{Session}
 use Rattle.kn_wire.specs.Requests.{Request, Open, Auth, Query, Bye, Takes, first_of}
 use Rattle.kn_reply.specs.Replies.{Reply, Done, Started, Number, PrivateAdded, Added, Value, Batched, PinnedAt, Log}
 use Rattle.kn_reply.specs.Replies.{News, Critical, No, NoMemory, reply_text}
@@ -118,18 +117,13 @@ module _ (g : DaemonConfig) (caller : ℕ) where
 
   queried : (reply : Reply) (mid : State) → is_no_memory reply ≡ false
       → Permits g caller policy_history after_auth (shape_of (Query 1 (codes "no,yes"))) reply mid → reply ≡ told
-  queried Done mid some p = absurd (cc p.answered.answer.exact)
-  queried (Started s version) mid some p = absurd (cc p.answered.answer.exact)
-  queried (Number version) mid some p = absurd (cc p.answered.answer.exact)
-  queried (PrivateAdded k) mid some p = absurd (cc p.answered.answer.exact)
-  queried (Added k version) mid some p = absurd (cc p.answered.answer.exact)
-  queried (Value index name version rows) mid some p =
-      by p.answered.session p.answered.values (sym (same_some _ _ p.answered.found))
-      (sym (same_some _ _ p.answered.named)) p.answered.answer
+  queried Done mid some p = absurd (cc p.answered.exact)
+  queried (Started s version) mid some p = absurd (cc p.answered.exact)
+  queried (Number version) mid some p = absurd (cc p.answered.exact)
+  queried (PrivateAdded k) mid some p = absurd (cc p.answered.exact)
+  queried (Added k version) mid some p = absurd (cc p.answered.exact)
+  queried (Value index name version rows) mid some p = on p.answered
     where
-      same_some : {X : Type 0} (x y : X) → Some x ≡ Some y → x ≡ y
-      same_some x y e = cc e
-
       at_level : (level : ℕ) (told_rows : List NamedRow) → IsPolicyLevel alice_equations level
           → IsProof alice_equations told_rows level
           → Value level (slice_index_or two_values level []) 1 told_rows ≡ told
@@ -140,22 +134,16 @@ module _ (g : DaemonConfig) (caller : ℕ) where
           ap (λ (n : ℕ). Value n (slice_index_or two_values n []) 1 told_rows) one
           ∙ ap (λ (l : List NamedRow). Value 1 (codes "yes") 1 l) only
 
-      by : (session : Session) (values : List (List ℕ)) → session ≡ alice_session → values ≡ two_values
-          → D.IsAnswer session values (Value index name version rows) → Value index name version rows ≡ told
-      by session values a b answer =
-          on (subst (λ (x : Session). D.IsAnswer x two_values (Value index name version rows)) a
-          (subst (λ (v : List (List ℕ)). D.IsAnswer session v (Value index name version rows)) b answer))
-        where
-          on : D.IsAnswer alice_session two_values (Value index name version rows)
-              → Value index name version rows ≡ told
-          on is =
-              is.exact ∙ at_level is.level is.rows (subst (λ (e : Equations). IsPolicyLevel e is.level) alice_question
-              is.least) (subst (λ (e : Equations). IsProof e is.rows is.level) alice_question is.proved)
-  queried (Batched first added version) mid some p = absurd (cc p.answered.answer.exact)
-  queried (PinnedAt version newest) mid some p = absurd (cc p.answered.answer.exact)
-  queried (Log n history) mid some p = absurd (cc p.answered.answer.exact)
-  queried (News index name version) mid some p = absurd (cc p.answered.answer.exact)
-  queried (Critical index ids) mid some p = absurd (cc p.answered.answer.exact)
+      on : D.IsAnswer alice_session two_values (Value index name version rows)
+          → Value index name version rows ≡ told
+      on is =
+          is.exact ∙ at_level is.level is.rows (subst (λ (e : Equations). IsPolicyLevel e is.level) alice_question
+          is.least) (subst (λ (e : Equations). IsProof e is.rows is.level) alice_question is.proved)
+  queried (Batched first added version) mid some p = absurd (cc p.answered.exact)
+  queried (PinnedAt version newest) mid some p = absurd (cc p.answered.exact)
+  queried (Log n history) mid some p = absurd (cc p.answered.exact)
+  queried (News index name version) mid some p = absurd (cc p.answered.exact)
+  queried (Critical index ids) mid some p = absurd (cc p.answered.exact)
   queried (No refusal) mid some p = absurd (some_none p.0)
   queried NoMemory mid some p = absurd (cc some)
 

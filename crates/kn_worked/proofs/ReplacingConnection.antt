@@ -4,6 +4,8 @@ use Rattle.std.proofs.Common.{true, None, Option, Result, if◌then◌else◌}
 use Rattle.std.specs.Fmt.{digits}
 use Rattle.std.specs.Str.{bytes_eq}
 use Rattle.std.specs.Result.{result_ok}
+use Rattle.std.specs.Prelude.{option_map}
+use Rattle.std.specs.Option.{option_or}
 use Rattle.kn_fields.specs.declared.fault.ReadFault.{ReadFault}
 use Rattle.kn_trees.specs.declared.assertion.Assertion.{Assertion}
 use Rattle.kn_proof.specs.declared.named.Id.TheVariants.{Shared}
@@ -16,12 +18,12 @@ use Rattle.kn_history.specs.declared.update.Update.{Update}
 use Rattle.kn_session.specs.Sessions.{Session, StandingQuery, started_session, query_with, query_at, pin_at, asker}
 use Rattle.kn_wire.specs.Items.{AddText, DropId}
 use Rattle.kn_wire.specs.Requests.{Open, Admin, Auth, Query, Batch, Watch, News as ForNews, PinAt, Log as ForLog, Bye}
+use Rattle.kn_reply.specs.declared.refusal.Refusal.TheVariants as R
 use Rattle.kn_reply.specs.declared.refusal.ItemRefusal.{ItemRefusal}
 use Rattle.kn_reply.specs.declared.refusal.ItemRefusal.TheVariants as I
 use Rattle.kn_reply.specs.Replies.{Done, Started, Value, Batched, PinnedAt, Log, News}
 use Rattle.kn_daemon.specs.Shapes.{shape_of}
 use Rattle.kn_daemon.specs.Daemon.{DaemonConfig, State, Permits, first_state, part_by, asked_of, equations_of}
-use Rattle.kn_daemon.specs.Daemon.{found_item}
 use Rattle.kn_daemon.specs.Daemon.{refusal_from}
 use Rattle.kn_daemon.specs.Linearized.{Exchange}
 use Rattle.kn_worked.specs.Texts.{policy_text, policy_assertion, credential_text, credential_assertion}
@@ -141,11 +143,12 @@ module _ (g : DaemonConfig) where
       → Permits g 0 first_history shown (shape_of (Batch (block (codes "1")))) (Batched 2 1 2) shown
   first_batch verdict = record {
     accepted = items_admitted g 1 verdict;
-    answered = (
-      AddText credential_text ∷ DropId 1 ∷ [],
-      refl,
-      record { before = policy_history; ends = refl; accepted = rw credential_valid refl; exact = refl },
-    );
+    answered = record {
+      first = 2;
+      committed = record { before = policy_history; ends = refl; accepted = rw credential_valid refl };
+      next = refl;
+      exact = refl;
+    };
     next = refl;
   }
 
@@ -160,15 +163,9 @@ module _ (g : DaemonConfig) where
   is_kept = record {
     accepted = refl;
     answered = record {
-      session = asking;
-      values = two_values;
-      found = refl;
-      named = refl;
-      answer = record {
-        level = 0;
-        exact = refl;
-        least = subst (λ (e : Equations). IsPolicyLevel e 0) (sym lost_question) lost_level;
-      };
+      level = 0;
+      exact = refl;
+      least = subst (λ (e : Equations). IsPolicyLevel e 0) (sym lost_question) lost_level;
     };
     next = refl;
   }
@@ -176,18 +173,19 @@ module _ (g : DaemonConfig) where
   later_admitted : g.verdict policy_text policy_assertion ≡ 0
       → refusal_from g 1 (AddText policy_text ∷ DropId 2 ∷ []) ≡ None
   later_admitted verdict =
-      ap (λ (o : Option ItemRefusal). found_item 1 o (refusal_from g 2 (DropId 2 ∷ [])))
+      ap (λ (o : Option ItemRefusal). option_or (option_map (R.Item 1) o) (refusal_from g 2 (DropId 2 ∷ [])))
       (admits I.Read I.Auth g policy_reading verdict)
 
   later_batch : g.verdict policy_text policy_assertion ≡ 0
       → Permits g 0 replaced_history watching (shape_of (Batch later_block)) (Batched 3 1 3) watching
   later_batch verdict = record {
     accepted = later_admitted verdict;
-    answered = (
-      AddText policy_text ∷ DropId 2 ∷ [],
-      refl,
-      record { before = first_history; ends = refl; accepted = rw policy_valid refl; exact = refl },
-    );
+    answered = record {
+      first = 3;
+      committed = record { before = first_history; ends = refl; accepted = rw policy_valid refl };
+      next = refl;
+      exact = refl;
+    };
     next = refl;
   }
 
@@ -195,15 +193,9 @@ module _ (g : DaemonConfig) where
   is_news = record {
     accepted = refl;
     answered = record {
-      session = keeping kept_query;
-      query = kept_query;
-      found = refl;
-      standing = refl;
-      news = record {
-        level = 1;
-        exact = refl;
-        least = subst (λ (e : Equations). IsPolicyLevel e 1) (sym regained_question) regained_level;
-      };
+      level = 1;
+      exact = refl;
+      least = subst (λ (e : Equations). IsPolicyLevel e 1) (sym regained_question) regained_level;
     };
     next = refl;
   }
@@ -216,17 +208,11 @@ module _ (g : DaemonConfig) where
   is_answered = record {
     accepted = refl;
     answered = record {
-      session = back;
-      values = two_values;
-      found = refl;
-      named = refl;
-      answer = record {
-        level = 1;
-        rows = policy_row ∷ [];
-        exact = refl;
-        proved = subst (λ (e : Equations). IsProof e (policy_row ∷ []) 1) (sym alice_question) alice_proof;
-        least = subst (λ (e : Equations). IsPolicyLevel e 1) (sym alice_question) alice_level;
-      };
+      level = 1;
+      rows = policy_row ∷ [];
+      exact = refl;
+      proved = subst (λ (e : Equations). IsProof e (policy_row ∷ []) 1) (sym alice_question) alice_proof;
+      least = subst (λ (e : Equations). IsPolicyLevel e 1) (sym alice_question) alice_level;
     };
     next = refl;
   }

@@ -10,7 +10,7 @@ use Rattle.kn_meaning.specs.Equations.{Equations, round, equations_over, IsPolic
 use Rattle.kn_meaning.specs.Examples as M
 use Rattle.kn_meaning.specs.Proofs.{IsProof, levels_by}
 use Rattle.kn_meaning.proofs.Walks.{formula_level_who}
-use Rattle.kn_session.specs.Sessions.{Session, StandingQuery, query_with, query_at}
+use Rattle.kn_session.specs.Sessions.{Session, StandingQuery, query_with}
 use Rattle.kn_wire.specs.Requests.{Open, Admin, Auth, Unauth, Add, Drop, Query, Watch, News as ForNews, Unwatch}
 use Rattle.kn_reply.specs.declared.refusal.Refusal.TheVariants as R
 use Rattle.kn_reply.specs.Replies.{Done, Started, Added, Value, Number, News, No}
@@ -92,15 +92,9 @@ standing_query_is_reported g caller secret verdict = record {
           record {
             accepted = refl;
             answered = record {
-              session = bob_session;
-              values = two_values;
-              found = refl;
-              named = refl;
-              answer = record {
-                level = 0;
-                exact = refl;
-                least = subst (λ (e : Equations). IsPolicyLevel e 0) (sym bob_question) bob_level;
-              };
+              level = 0;
+              exact = refl;
+              least = subst (λ (e : Equations). IsPolicyLevel e 0) (sym bob_question) bob_level;
             };
             next = refl;
           },
@@ -120,15 +114,9 @@ standing_query_is_reported g caller secret verdict = record {
               record {
                 accepted = refl;
                 answered = record {
-                  session = keeping kept_query;
-                  query = kept_query;
-                  found = refl;
-                  standing = refl;
-                  news = record {
-                    level = 1;
-                    exact = refl;
-                    least = subst (λ (e : Equations). IsPolicyLevel e 1) (sym (later_question caller)) longer_level;
-                  };
+                  level = 1;
+                  exact = refl;
+                  least = subst (λ (e : Equations). IsPolicyLevel e 1) (sym (later_question caller)) longer_level;
                 };
                 next = refl;
               },
@@ -144,16 +132,10 @@ standing_query_is_reported g caller secret verdict = record {
                   record {
                     accepted = refl;
                     answered = record {
-                      session = keeping (query_at (longer_history caller) kept_query);
-                      query = query_at (longer_history caller) kept_query;
-                      found = refl;
-                      standing = refl;
-                      news = record {
-                        level = 0;
-                        exact = refl;
-                        least =
-                            subst (λ (e : Equations). IsPolicyLevel e 0) (sym (shorter_question caller)) shorter_level;
-                      };
+                      level = 0;
+                      exact = refl;
+                      least =
+                          subst (λ (e : Equations). IsPolicyLevel e 0) (sym (shorter_question caller)) shorter_level;
                     };
                     next = refl;
                   },
@@ -162,17 +144,11 @@ standing_query_is_reported g caller secret verdict = record {
                     record {
                       accepted = refl;
                       answered = record {
-                        session = keeping (query_at (shorter_history caller) kept_query);
-                        values = two_values;
-                        found = refl;
-                        named = refl;
-                        answer = record {
-                          level = 0;
-                          rows = [];
-                          exact = refl;
-                          proved = subst (λ (e : Equations). IsProof e [] 0) (sym bob_question) bob_proof;
-                          least = subst (λ (e : Equations). IsPolicyLevel e 0) (sym bob_question) bob_level;
-                        };
+                        level = 0;
+                        rows = [];
+                        exact = refl;
+                        proved = subst (λ (e : Equations). IsProof e [] 0) (sym bob_question) bob_proof;
+                        least = subst (λ (e : Equations). IsPolicyLevel e 0) (sym bob_question) bob_level;
                       };
                       next = refl;
                     },
@@ -297,15 +273,9 @@ requester_is_kept g caller = record {
         record {
           accepted = refl;
           answered = record {
-            session = alice_session;
-            values = two_values;
-            found = refl;
-            named = refl;
-            answer = record {
-              level = 1;
-              exact = refl;
-              least = subst (λ (e : Equations). IsPolicyLevel e 1) (sym alice_question) alice_level;
-            };
+            level = 1;
+            exact = refl;
+            least = subst (λ (e : Equations). IsPolicyLevel e 1) (sym alice_question) alice_level;
           };
           next = refl;
         },
@@ -317,15 +287,9 @@ requester_is_kept g caller = record {
             record {
               accepted = refl;
               answered = record {
-                session = record none_session { standing = Some alice_query };
-                query = alice_query;
-                found = refl;
-                standing = refl;
-                news = record {
-                  level = 1;
-                  exact = refl;
-                  least = subst (λ (e : Equations). IsPolicyLevel e 1) (sym alice_question) alice_level;
-                };
+                level = 1;
+                exact = refl;
+                least = subst (λ (e : Equations). IsPolicyLevel e 1) (sym alice_question) alice_level;
               };
               next = refl;
             },
@@ -334,17 +298,11 @@ requester_is_kept g caller = record {
               record {
                 accepted = refl;
                 answered = record {
-                  session = record none_session { standing = Some alice_query };
-                  values = two_values;
-                  found = refl;
-                  named = refl;
-                  answer = record {
-                    level = 0;
-                    rows = [];
-                    exact = refl;
-                    proved = subst (λ (e : Equations). IsProof e [] 0) (sym none_question) none_proof;
-                    least = subst (λ (e : Equations). IsPolicyLevel e 0) (sym none_question) none_level;
-                  };
+                  level = 0;
+                  rows = [];
+                  exact = refl;
+                  proved = subst (λ (e : Equations). IsProof e [] 0) (sym none_question) none_proof;
+                  least = subst (λ (e : Equations). IsPolicyLevel e 0) (sym none_question) none_level;
                 };
                 next = refl;
               },

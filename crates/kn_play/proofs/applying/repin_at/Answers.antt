@@ -1,4 +1,4 @@
-use Rattle.std.proofs.Common.{◌≡◌, ◌∙◌, sym, subst, Option, Some, List}
+use Rattle.std.proofs.Common.{◌≡◌, sym, subst, Option, Some, List}
 use Rattle.std.specs.Prelude.{OnOk}
 use Rattle.std.specs.Arc.{arc_value}
 use Rattle.kn_history.specs.declared.update.Update.{Update}

@@ -1,5 +1,5 @@
 use Rattle.kn_play.specs.Playing.{state_of_sessions, AsksFor}
-use Rattle.std.proofs.Common.{Some, subst}
+use Rattle.std.proofs.Common.{Some}
 use Rattle.kn_daemon.specs.Shapes.{Asks, WithProof}
 use Rattle.kn_play.proofs.StandingQueries.{asked-kept}
 use Rattle.kn_play.proofs.applying.watch.Goals as goal

@@ -21,5 +21,5 @@ returns-in-Err g c =
     record {
       forgotten = c.forget.ensures;
       exact = λ g'. call_refused g' old.sessions c.apply.new.self old.is_admin _ _ _ _ _ c.in-Err.fault _
-          c.in-Err.ensures.err c.refusal_of_call.ensures c.print_refusal.ensures.prints;
+          c.in-Err.ensures.err c.refusal_of_call_fault.ensures c.print_refusal.ensures.prints;
     }

@@ -1,6 +1,6 @@
 use Rattle.std.proofs.Common.{ap, option_map}
 use Rattle.kn_reply.specs.Replies.{reply_of, reply_text}
-use Rattle.kn_daemon.specs.Daemon.{reply_of_call}
+use Rattle.kn_daemon.specs.CallFaults.{reply_of_applied}
 use Rattle.kn_session.specs.Calls.{call_of}
 use Rattle.kn_transcript.proofs.DueReplies.{as_text}
 use Rattle.kn_transcript.proofs.CallingLaws.{state_with, private_few, call_done, call_untaken}
@@ -19,7 +19,7 @@ returns-in-Ok c =
           c.args.left.now
           c.behind_reply.result (λ found. option_map (λ rest. rest.now) found) c.in-Ok.applied c.in-Ok.ensures.ok
           (as_text c.behind_reply.result (λ found. option_map (λ rest. rest.now) found) c.args.left.now
-          (reply_text (reply_of c.reply_of_applied.result)) (reply_text (reply_of_call c.in-Ok.applied))
+          (reply_text (reply_of c.reply_of_applied.result)) (reply_text (reply_of_applied c.in-Ok.applied))
           (ap reply_text c.reply_of_applied.ensures) c.behind_reply.ensures.behind);
     }
 
@@ -29,6 +29,7 @@ returns-in-Err c =
     record {
       judged = λ past. call_untaken past old.sessions c.apply.new.self old.is_admin c.args.s (call_of c.args.call)
           c.args.left.now
-          c.behind_refusal.result (λ found. option_map (λ rest. rest.now) found) c.in-Err.fault c.refusal_of_call.result
-          c.in-Err.ensures.err c.refusal_of_call.ensures c.behind_refusal.ensures.behind;
+          c.behind_refusal.result (λ found. option_map (λ rest. rest.now) found) c.in-Err.fault
+          c.refusal_of_call_fault.result c.in-Err.ensures.err c.refusal_of_call_fault.ensures
+          c.behind_refusal.ensures.behind;
     }
