@@ -18,7 +18,7 @@ use Rattle.kn_rows.proofs.BaseRows.{AreBaseRows-longer}
 use Rattle.kn_rows.proofs.Names.{bytes_eq-true, number_or_none, absent-among, or_as_true, true_or}
 use Rattle.kn_rows.proofs.SizesAdded.{node_total-longer}
 use Rattle.kn_answer.specs.Based.{condition_values}
-use Rattle.kn_answer.specs.Narrowed.{leveled, narrowed, narrowed_part}
+use Rattle.kn_answer.specs.Narrowed.{principals_with_level, narrow_parts, narrowed_part}
 use Rattle.kn_answer.proofs.NarrowedFormulas.{narrowed_by_members}
 
 or_none : (a : Bool) → a ≡ (a || false)
@@ -60,7 +60,8 @@ leveled_names asked parts =
     with_names (with_names (policy ∷ []) (map (λ part. part.assertion.authorizer) parts)) asked.requesters
 
 leveled-members : (asked : Asked) (parts : List Part) (name : List ℕ)
-    → list_any (bytes_eq name) (leveled_names asked parts) ≡ list_any (bytes_eq name) (leveled asked parts)
+    → list_any (bytes_eq name) (leveled_names asked parts)
+    ≡ list_any (bytes_eq name) (principals_with_level asked parts)
 leveled-members asked parts name =
     let authorizers : List (List ℕ) = map (λ part. part.assertion.authorizer) parts in
     let authorizes : Bool = list_any (bytes_eq name) authorizers in
@@ -93,19 +94,19 @@ authorizers-numbered asked parts names entered = λ name among.
 
 -- assertions that are narrowed to these names are those of the query
 pub narrowed-leveled : (asked : Asked) (parts : List Part) (names : List (List ℕ)) → names ≡ leveled_names asked parts
-    → map (narrowed_part names) parts ≡ narrowed asked parts
+    → map (narrowed_part names) parts ≡ narrow_parts asked parts
 narrowed-leveled asked parts names entered = each parts
   where
-    same : (part : Part) → narrowed_part names part ≡ narrowed_part (leveled asked parts) part
-    same = narrowed_by_members names (leveled asked parts)
+    same : (part : Part) → narrowed_part names part ≡ narrowed_part (principals_with_level asked parts) part
+    same = narrowed_by_members names (principals_with_level asked parts)
         (λ name. ap (list_any (bytes_eq name)) entered ∙ leveled-members asked parts name)
 
     each : (others : List Part)
-        → map (narrowed_part names) others ≡ map (narrowed_part (leveled asked parts)) others
+        → map (narrowed_part names) others ≡ map (narrowed_part (principals_with_level asked parts)) others
     each [] = refl
     each (part ∷ others) =
         ap (λ p. p ∷ map (narrowed_part names) others) (same part)
-        ∙ ap (λ ps. narrowed_part (leveled asked parts) part ∷ ps) (each others)
+        ∙ ap (λ ps. narrowed_part (principals_with_level asked parts) part ∷ ps) (each others)
 
 -- their conditions and ids stay
 pub conditions-narrowed : (asked : Asked) (names : List (List ℕ)) (parts : List Part)

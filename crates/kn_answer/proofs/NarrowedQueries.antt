@@ -16,7 +16,7 @@ use Rattle.kn_meaning.specs.Equations.{Equations, Part, Statement, statement_of,
 use Rattle.kn_meaning.specs.Equations.{highest_worth, is_requester, round, IsPolicyLevel}
 use Rattle.kn_meaning.specs.Proofs.{row_level, levels_by, Supports, IsRow, AreRows, IsProof}
 use Rattle.kn_rows.proofs.Names.{bytes_eq-same, bytes_eq-true}
-use Rattle.kn_answer.specs.Narrowed.{leveled, narrowed, NarrowedAreSame, narrowed_part}
+use Rattle.kn_answer.specs.Narrowed.{principals_with_level, narrow_parts, NarrowedAreSame, narrowed_part}
 use Rattle.kn_answer.proofs.NarrowedFormulas.{levels_among, levels_among-all, levels_among-below}
 use Rattle.kn_answer.proofs.NarrowedFormulas.{licensees_level-narrowed, licensees_level-below}
 use Rattle.kn_answer.proofs.Removing.{any-there}
@@ -87,7 +87,7 @@ highest-none asked top at name (part ∷ parts) none =
 
 module _ (asked : Asked) (parts : List Part) where
   abbrev names : List (List ℕ)
-  names = leveled asked parts
+  names = principals_with_level asked parts
 
   abbrev authorizers : List (List ℕ)
   authorizers = map (λ part. part.assertion.authorizer) parts
@@ -96,7 +96,7 @@ module _ (asked : Asked) (parts : List Part) where
   whole = equations_over asked parts
 
   abbrev narrower : Equations
-  narrower = equations_over asked (narrowed asked parts)
+  narrower = equations_over asked (narrow_parts asked parts)
 
   abbrev IsOther : List ℕ → Type 0
   IsOther name = list_any (bytes_eq name) names ≡ false

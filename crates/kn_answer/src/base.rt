@@ -379,7 +379,7 @@ impl Base {
     {
         let mut rows = List::new(alloc);
         for row in proof.rows.as_slice() {
-            let named = self.named(alloc, ids, row)?;
+            let named = self.name_row(alloc, ids, row)?;
             match rows.push(named) {
                 Ok(()) => {}
                 Err(_) => return Err(NoMemory),
@@ -389,7 +389,7 @@ impl Base {
     }
 
     // A row by its names.
-    fn named<I: Ids>(&self, alloc: Global, ids: &I, row: &Row) -> Result<NamedRow, NoMemory>
+    fn name_row<I: Ids>(&self, alloc: Global, ids: &I, row: &Row) -> Result<NamedRow, NoMemory>
         requires numbers { IsOfSystem self.now.system row.now }
         requires one_each { length (I.parts ids.now) ≡ length self.now.system.rows }
         ensures { IfOk result (λ named. (s : SystemEquations) → IsLocated (record {

@@ -34,7 +34,7 @@ impl<'c, A: Assertions> Ids for IdsOf<'c, A> {
     }
 }
 
-/// The ids of assertions, where the base is of these narrowed to those who may have a level in a query. Narrowed
+/// The ids of assertions, where the base is of these narrow_parts to those who may have a level in a query. Narrowed
 /// assertions keep their ids.
 #[derive(Drop)]
 pub(crate) struct NarrowedIds<'c, 'q, A: Assertions> {
@@ -43,9 +43,9 @@ pub(crate) struct NarrowedIds<'c, 'q, A: Assertions> {
 }
 
 impl<'c, 'q, A: Assertions> Ids for NarrowedIds<'c, 'q, A> {
-    ghost use Rattle.kn_answer.specs.Narrowed.{narrowed};
+    ghost use Rattle.kn_answer.specs.Narrowed.{narrow_parts};
 
-    ghost parts = { λ i. narrowed i.query.now (A.parts i.assertions.now) };
+    ghost parts = { λ i. narrow_parts i.query.now (A.parts i.assertions.now) };
 
     fn id(&self, row: u32) -> Id {
         self.assertions.id(row)

@@ -8,7 +8,7 @@ ghost use Rattle.kn_system.specs.Equations.{node_total};
 ghost use Rattle.kn_rows.specs.BaseRows.{IsBaseOf};
 ghost use Rattle.kn_rows.specs.Numbering.{HaveNumbers, with_names};
 ghost use Rattle.kn_rows.specs.Sizes.{HaveTexts, IsReadablePart, total_size};
-ghost use Rattle.kn_answer.specs.Narrowed.{narrowed, narrowed_part};
+ghost use Rattle.kn_answer.specs.Narrowed.{narrow_parts, narrowed_part};
 
 use crate::base::Base;
 use crate::conditions::Evaluated;
@@ -22,7 +22,7 @@ use kn_settle::Scratch;
 use std::alloc::Global;
 
 impl Base {
-    /// The base of these assertions, in their order, narrowed to those who may have a level in this query. They are
+    /// The base of these assertions, in their order, narrow_parts to those who may have a level in this query. They are
     /// those of texts that have at most 16,777,000 bytes together.
     ///
     /// `NoMemory` comes only when memory runs out.
@@ -32,7 +32,7 @@ impl Base {
         query: &Query<'_>,
     ) -> Result<Base, NoMemory>
         requires { HaveTexts list.now }
-        ensures base { IfOk result (λ base. IsBaseOf (narrowed query.now list.now) base.names base.system) }
+        ensures base { IfOk result (λ base. IsBaseOf (narrow_parts query.now list.now) base.names base.system) }
         ensures live { IfOk result (λ base. base.live ≡ replicate (length list.now) true) }
         ensures room { IfOk result (λ base. length (with_names base.names query.now.requesters) ≤ 2 ^ 24) }
     {
@@ -63,7 +63,7 @@ impl Base {
         query: &Query<'_>,
         list: &List<Part<'_>>,
     ) -> Result<Answer, NoMemory>
-        requires base { IsBaseOf (narrowed query.now list.now) self.old.names self.old.system }
+        requires base { IsBaseOf (narrow_parts query.now list.now) self.old.names self.old.system }
         requires live { self.old.live ≡ replicate (length list.now) true }
         requires room { length (with_names self.old.names query.now.requesters) ≤ 2 ^ 24 }
         ensures proof { IfOk result (λ a. IsProof (equations_over query.now list.now) a.rows a.value) }
@@ -100,7 +100,7 @@ fn number_authorizers(numbered: &mut Numbered, list: &List<Part<'_>>) -> Result<
     Ok(())
 }
 
-// Adds the row of each assertion, narrowed to those who have numbers, and with each row its flag.
+// Adds the row of each assertion, narrow_parts to those who have numbers, and with each row its flag.
 fn add_narrowed_rows(
     alloc: Global,
     numbered: &mut Numbered,

@@ -23,7 +23,8 @@ use Rattle.kn_program.proofs.Depths.{found_shallow}
 use Rattle.kn_program.proofs.Stated.{program_is_found}
 use Rattle.kn_principal.specs.Principals.{lower_case, is_colon, with_algorithm, normal_form}
 use Rattle.kn_assert.specs.Parts.{Gives, text_by, normal_in, principal_of}
-use Rattle.kn_assert.specs.Reading.{and_then, nothing, stated_by, assembled, reading_with, reading_of, assertion_of}
+use Rattle.kn_assert.specs.Reading.{and_then, nothing, stated_by, assemble_assertion, reading_with, reading_of}
+use Rattle.kn_assert.specs.Reading.{assertion_of}
 use Rattle.kn_assert.specs.Reading.{fault_of}
 use Rattle.kn_assert.specs.AssertionTexts.{IsShallow, IsReading, IsFirstReadFault}
 
@@ -101,7 +102,7 @@ pub reading_here : (text : List ℕ) (tokens : List TokenView) {constants : List
     → IsWellFielded text
     → constants ≡ constants_in (field_with 6 tokens) → signed ≡ signed_to text tokens
     → reading_of text ≡ and_then (stated_by constants nothing (fields_of tokens))
-    (λ s. assembled constants signed s s.authorizer)
+    (λ s. assemble_assertion constants signed s s.authorizer)
 unfolding reading_of reading_with
 reading_here text tokens told cut well c n = rw (c, n, (told tokens).1 (cut, well)) refl
 

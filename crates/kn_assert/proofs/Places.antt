@@ -9,7 +9,7 @@ use Rattle.std.proofs.lemmas.List.{length-map, length-drop, length-take-le}
 use Rattle.std.proofs.lemmas.List.Elements.{recursion_from_All}
 use Rattle.std.proofs.lemmas.Option.{slice_get_within}
 use Rattle.std.proofs.lemmas.Slice.Eq.{bytes_eq-Decides}
-use Rattle.kn_lex.specs.Cutting.{TokenView, Cuts, Reaches, spent, place_after, start}
+use Rattle.kn_lex.specs.Cutting.{TokenView, Cuts, Reaches, lexeme_bytes, place_after, start}
 use Rattle.kn_lex.specs.Faults.{IsFaultless, IsFirstLexicalFault, HasFault as HasLexicalFault, Shows as ShowsLexical}
 use Rattle.kn_lex.specs.Faults.{fault_place as lexical_place}
 use Rattle.kn_lex.specs.TokenFacts.{IsTokenOf}
@@ -31,7 +31,7 @@ use Rattle.kn_fields.specs.declared.fault.ReadFault.TheVariants.{Name}
 
 -- pieces and what is left behind them are the whole text
 whole : (pieces : List (Lexeme × ℕ)) (place : Place) (text : List ℕ) (end : Place) (left : List ℕ)
-    → Reaches place text pieces end left → spent pieces + length left ≡ length text
+    → Reaches place text pieces end left → lexeme_bytes pieces + length left ≡ length text
 whole [] place text end left reached = omega (arith, ap length reached.1)
 whole (p ∷ pieces) place text end left reached =
     omega (
@@ -61,7 +61,7 @@ lexical_within text fault has =
     omega (
       arith,
       whole has.lexemes start text has.place has.left has.reached,
-      shown_within has.place (spent has.lexemes) has.left fault has.shown,
+      shown_within has.place (lexeme_bytes has.lexemes) has.left fault has.shown,
     )
 
 same_place : (fault : LexFault) → fault_place (of_lexical fault) ≡ lexical_place fault

@@ -13,7 +13,7 @@ use Rattle.kn_fields.specs.declared.fault.ReadFault.TheVariants.{NoMemory}
 use Rattle.kn_fields.proofs.FirstFaults.{lexical_between}
 use Rattle.kn_trees.specs.declared.assertion.Assertion.{Assertion}
 use Rattle.kn_assert.specs.Reading.{authorizer_in, conditions_in, licensees_in, signature_in, and_then, nothing}
-use Rattle.kn_assert.specs.Reading.{with_field, stated_by, assembled, reading_with, reading_of}
+use Rattle.kn_assert.specs.Reading.{with_field, stated_by, assemble_assertion, reading_with, reading_of}
 use Rattle.kn_assert.specs.AssertionTexts.{Spells, IsReading, AuthorizerShows, ConditionsShows, LicenseesShows}
 use Rattle.kn_assert.specs.AssertionTexts.{SignatureShows}
 use Rattle.kn_assert.specs.AssertionTexts.{FieldShows, IsFirstShown, IsFirstReadFault}
@@ -417,7 +417,8 @@ tokens_tell told text tokens cut well = by (stated_by (constants_of tokens) noth
   where
     of : (s : Stated) → AreStated (constants_of tokens) (first_of (fields_of tokens)) nothing s → (o : Option (List ℕ))
         → s.authorizer ≡ o
-        → Tells (IsReading text) (IsFirstReadFault text) (assembled (constants_of tokens) (signed_to text tokens) s o)
+        → Tells (IsReading text) (IsFirstReadFault text)
+        (assemble_assertion (constants_of tokens) (signed_to text tokens) s o)
     of s h (Some a) o = record {
       tokens = tokens;
       cut = cut;
@@ -438,7 +439,7 @@ tokens_tell told text tokens cut well = by (stated_by (constants_of tokens) noth
 
     by : (r : Result Stated ReadFault) → stated_by (constants_of tokens) nothing (fields_of tokens) ≡ r
         → Tells (IsReading text) (IsFirstReadFault text)
-        (and_then r (λ s. assembled (constants_of tokens) (signed_to text tokens) s s.authorizer))
+        (and_then r (λ s. assemble_assertion (constants_of tokens) (signed_to text tokens) s s.authorizer))
     by (Err f) e = inr
         (record {
           tokens = tokens;
@@ -474,7 +475,8 @@ spelled_reading told text assertion h =
     stated = (stated_spells told.parts text h.tokens assertion h.spelled.constants h.spelled.signed_to).1 h.spelled
 
     by : (r : Result Stated ReadFault) → stated_by (constants_of h.tokens) nothing (fields_of h.tokens) ≡ r
-        → and_then r (λ s. assembled (constants_of h.tokens) (signed_to text h.tokens) s s.authorizer) ≡ Ok assertion
+        → and_then r (λ s. assemble_assertion (constants_of h.tokens) (signed_to text h.tokens) s s.authorizer)
+        ≡ Ok assertion
     by (Err f) e =
         let shown = first_shown told.parts (constants_of h.tokens) nothing (fields_of h.tokens) f e in
         absurd (no_fault told.parts (constants_of h.tokens) h.tokens (stated_of assertion) shown.field f stated

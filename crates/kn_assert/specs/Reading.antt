@@ -61,9 +61,9 @@ stated_by constants s (field ∷ fields) =
     and_then (with_field constants s (field_of field.label) field.tokens) (λ next. stated_by constants next fields)
 
 -- the assertion of what is stated
-abbrev pub assembled : List Set → ℕ → Stated → Option (List ℕ) → Result Assertion ReadFault
-assembled constants signed s None = Err NoAuthorizer
-assembled constants signed s (Some principal) = Ok (record {
+abbrev pub assemble_assertion : List Set → ℕ → Stated → Option (List ℕ) → Result Assertion ReadFault
+assemble_assertion constants signed s None = Err NoAuthorizer
+assemble_assertion constants signed s (Some principal) = Ok (record {
   authorizer = principal;
   constants = constants;
   licensees = s.licensees;
@@ -76,7 +76,7 @@ assembled constants signed s (Some principal) = Ok (record {
 unfoldable pub reading_with : List ℕ → List TokenView → Result Assertion ReadFault
 reading_with text tokens =
     and_then (stated_by (constants_in (field_with 6 tokens)) nothing (fields_of tokens))
-    (λ s. assembled (constants_in (field_with 6 tokens)) (signed_to text tokens) s s.authorizer)
+    (λ s. assemble_assertion (constants_in (field_with 6 tokens)) (signed_to text tokens) s s.authorizer)
 
 -- the assertion of a text, or its first fault; it is never `NoMemory`
 unfoldable pub reading_of : List ℕ → Result Assertion ReadFault

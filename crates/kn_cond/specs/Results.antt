@@ -4,11 +4,11 @@ use Rattle.kn_cond.specs.Meaning.{Meaning, truth, whole, text, fault}
 use Rattle.kn_cond.specs.declared.outcome.Outcome.{Outcome}
 use Rattle.kn_cond.specs.declared.outcome.Outcome.TheVariants.{Truth, Whole, Text, Fault}
 
-abbrev pub meant : Outcome → Meaning
-meant (Truth value) = truth value
-meant (Whole value) = whole value
-meant (Text value) = text value
-meant Fault = fault
+abbrev pub meaning_of_outcome : Outcome → Meaning
+meaning_of_outcome (Truth value) = truth value
+meaning_of_outcome (Whole value) = whole value
+meaning_of_outcome (Text value) = text value
+meaning_of_outcome Fault = fault
 
 -- a number, and a fault where there is none
 abbrev pub or_fault : Option ℤ → Meaning

@@ -4,7 +4,7 @@ ghost use Rattle.std.specs.List.{list_any};
 ghost use Rattle.kn_cond.specs.Meaning.{Meaning, whole, text, text_in_range, negation, minus, number_of, value_named};
 ghost use Rattle.kn_cond.specs.Meaning.{value_by, comparison, holds_of_texts};
 ghost use Rattle.kn_cond.specs.Meaning.{operation, operation_of_texts, chain_of, links_of, meaning_of};
-ghost use Rattle.kn_cond.specs.Results.{meant, or_fault};
+ghost use Rattle.kn_cond.specs.Results.{meaning_of_outcome, or_fault};
 ghost use Rattle.kn_cond.specs.Joining.{is_join, joins, link_joins};
 
 use crate::numbers;
@@ -24,7 +24,7 @@ pub(crate) fn outcome<'e>(
     expr: ExprRef<'e>,
     env: &'e Env<'e>,
 ) -> Result<Outcome<'e>, NoMemory>
-    ensures value { IfOk result (λ outcome. meant outcome ≡ meaning_of env.now expr.entry) }
+    ensures value { IfOk result (λ outcome. meaning_of_outcome outcome ≡ meaning_of env.now expr.entry) }
     ensures memory { IfErr result (λ none. joins expr.entry ≡ true) }
 {
     match expr.form() {
@@ -60,7 +60,7 @@ fn value_of_parts<'e>(
     parts: Operands<'e>,
     env: &'e Env<'e>,
 ) -> Result<Outcome<'e>, NoMemory>
-    ensures value { IfOk result (λ outcome. meant outcome
+    ensures value { IfOk result (λ outcome. meaning_of_outcome outcome
         ≡ value_by decisive (map (meaning_of env.now) parts.entry)) }
     ensures memory { IfErr result (λ none. list_any joins parts.entry ≡ true) }
 {
@@ -83,8 +83,8 @@ fn chain_of<'e>(
     links: Links<'e>,
     env: &'e Env<'e>,
 ) -> Result<Outcome<'e>, NoMemory>
-    ensures value { IfOk result (λ outcome. meant outcome
-        ≡ chain_of (meant first.entry) (links_of env.now links.entry)) }
+    ensures value { IfOk result (λ outcome. meaning_of_outcome outcome
+        ≡ chain_of (meaning_of_outcome first.entry) (links_of env.now links.entry)) }
     ensures memory { IfErr result (λ none. list_any link_joins links.entry ≡ true) }
 {
     let mut left = first;
@@ -97,7 +97,7 @@ fn chain_of<'e>(
 }
 
 fn in_range<'e>(bytes: &'e [u8]) -> Outcome<'e>
-    ensures { meant result ≡ text_in_range bytes.now }
+    ensures { meaning_of_outcome result ≡ text_in_range bytes.now }
 {
     if bytes.len() > TEXT_BYTES {
         Outcome::Fault
@@ -107,7 +107,7 @@ fn in_range<'e>(bytes: &'e [u8]) -> Outcome<'e>
 }
 
 fn whole_or_fault<'e>(number: Option<i32>) -> Outcome<'e>
-    ensures { meant result ≡ or_fault number }
+    ensures { meaning_of_outcome result ≡ or_fault number }
 {
     match number {
         Some(n) => Outcome::Whole(n),
@@ -116,7 +116,7 @@ fn whole_or_fault<'e>(number: Option<i32>) -> Outcome<'e>
 }
 
 fn negation(part: Outcome) -> Outcome
-    ensures { meant result ≡ negation (meant part.entry) }
+    ensures { meaning_of_outcome result ≡ negation (meaning_of_outcome part.entry) }
 {
     match part {
         Outcome::Truth(value) => Outcome::Truth(!value),
@@ -125,7 +125,7 @@ fn negation(part: Outcome) -> Outcome
 }
 
 fn minus(part: Outcome) -> Outcome
-    ensures { meant result ≡ minus (meant part.entry) }
+    ensures { meaning_of_outcome result ≡ minus (meaning_of_outcome part.entry) }
 {
     match part {
         Outcome::Whole(number) => whole_or_fault(numbers::negative(number)),
@@ -134,7 +134,7 @@ fn minus(part: Outcome) -> Outcome
 }
 
 fn number_of(part: Outcome) -> Outcome
-    ensures { meant result ≡ number_of (meant part.entry) }
+    ensures { meaning_of_outcome result ≡ number_of (meaning_of_outcome part.entry) }
 {
     match part {
         Outcome::Text(text) => whole_or_fault(numbers::front_number(text.as_slice())),
@@ -143,7 +143,7 @@ fn number_of(part: Outcome) -> Outcome
 }
 
 fn value_named<'e>(env: &'e Env<'e>, part: Outcome<'e>) -> Outcome<'e>
-    ensures { meant result ≡ value_named env.now (meant part.entry) }
+    ensures { meaning_of_outcome result ≡ value_named env.now (meaning_of_outcome part.entry) }
 {
     match part {
         Outcome::Text(name) => {
@@ -158,7 +158,8 @@ fn value_named<'e>(env: &'e Env<'e>, part: Outcome<'e>) -> Outcome<'e>
 }
 
 fn comparison<'e>(sign: Comparison, left: Outcome<'e>, right: Outcome<'e>) -> Outcome<'e>
-    ensures { meant result ≡ comparison sign (meant left.entry) (meant right.entry) }
+    ensures { meaning_of_outcome result
+        ≡ comparison sign (meaning_of_outcome left.entry) (meaning_of_outcome right.entry) }
 {
     match left {
         Outcome::Whole(a) => match right {
@@ -192,7 +193,8 @@ fn operation<'e>(
     left: Outcome<'e>,
     right: Outcome<'e>,
 ) -> Result<Outcome<'e>, NoMemory>
-    ensures value { IfOk result (λ outcome. meant outcome ≡ operation sign (meant left.entry) (meant right.entry)) }
+    ensures value { IfOk result (λ outcome. meaning_of_outcome outcome
+        ≡ operation sign (meaning_of_outcome left.entry) (meaning_of_outcome right.entry)) }
     ensures memory { IfErr result (λ none. is_join sign ≡ true) }
 {
     match left {
@@ -214,23 +216,24 @@ fn operation_of_texts<'e>(
     left: Text<'e>,
     right: Text<'e>,
 ) -> Result<Outcome<'e>, NoMemory>
-    ensures value { IfOk result (λ outcome. meant outcome ≡ operation_of_texts sign left.entry right.entry) }
+    ensures value { IfOk result (λ outcome. meaning_of_outcome outcome
+        ≡ operation_of_texts sign left.entry right.entry) }
     ensures memory { IfErr result (λ none. is_join sign ≡ true) }
 {
     match sign {
-        Operation::Join => joined(alloc, left, right.as_slice()),
+        Operation::Join => join_texts(alloc, left, right.as_slice()),
         _ => Ok(Outcome::Fault),
     }
 }
 
-fn joined<'e>(alloc: Global, left: Text<'e>, more: &[u8]) -> Result<Outcome<'e>, NoMemory>
-    ensures { IfOk result (λ outcome. meant outcome ≡ text_in_range (left.entry ++ more.now)) }
+fn join_texts<'e>(alloc: Global, left: Text<'e>, more: &[u8]) -> Result<Outcome<'e>, NoMemory>
+    ensures { IfOk result (λ outcome. meaning_of_outcome outcome ≡ text_in_range (left.entry ++ more.now)) }
 {
     let len = left.as_slice().len();
     if len > TEXT_BYTES || more.len() > TEXT_BYTES - len {
         return Ok(Outcome::Fault);
     }
-    match left.joined(alloc, more) {
+    match left.join(alloc, more) {
         Ok(text) => Ok(Outcome::Text(text)),
         Err(NoMemory) => Err(NoMemory),
     }

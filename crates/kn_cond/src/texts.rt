@@ -64,7 +64,7 @@ impl<'e> Text<'e> {
     }
 
     /// This text with more bytes behind it.
-    pub(crate) fn joined(self, alloc: Global, more: &[u8]) -> Result<Text<'e>, NoMemory>
+    pub(crate) fn join(self, alloc: Global, more: &[u8]) -> Result<Text<'e>, NoMemory>
         ensures { IfOk result (λ text. text ≡ self.entry ++ more.now) }
     {
         let mut octets = self.into_octets(alloc)?;

@@ -20,7 +20,7 @@ use Rattle.kn_daemon.specs.Shapes.{shape_of}
 use Rattle.kn_daemon.specs.Daemon.{DaemonConfig, State, first_state, Permits}
 use Rattle.kn_daemon.specs.Linearized.{Exchange, Along, InOrder, IsBehind, StopsAt, update_of, update_by, requests_in}
 use Rattle.kn_daemon.specs.Linearized.{texts_in}
-use Rattle.kn_wire.specs.Feeding.{Held, Bytes, InLong, Shut, held_bytes, pushed, held_after}
+use Rattle.kn_wire.specs.Feeding.{Held, Bytes, InLong, Shut, held_bytes, with_piece, held_after}
 use Rattle.kn_wire.specs.Feeding.{held_after_fault, next_of, is_shut}
 use Rattle.kn_daemon.specs.Served.{IsDrained, IsCut, IsWritten, HasEnd, IsServed, is_bye, is_block}
 use Rattle.kn_daemon.specs.Underway.{IsUnderway, IsReplied}
@@ -99,11 +99,11 @@ module _ (g : DaemonConfig) (taken written : List ℕ) (history more : List Upda
   texts-all : texts_in all ≡ texts_in u.exchanges ++ reply_text reply ∷ []
   texts-all = map_push _ u.exchanges exchange
 
-  taken-all : (bytes : List ℕ) → Takes (taken ++ bytes) (requests_in all) (held_bytes (pushed after bytes))
+  taken-all : (bytes : List ℕ) → Takes (taken ++ bytes) (requests_in all) (held_bytes (with_piece after bytes))
   taken-all bytes =
-      subst (λ requests. Takes (taken ++ bytes) requests (held_bytes (pushed after bytes))) (sym requests-all)
-      (takes-push (taken ++ bytes) (requests_in u.exchanges) (held_bytes (pushed held bytes)) request
-      (held_bytes (pushed after bytes)) (u.requests bytes) (next-grows held after request bytes u.not_shut next))
+      subst (λ requests. Takes (taken ++ bytes) requests (held_bytes (with_piece after bytes))) (sym requests-all)
+      (takes-push (taken ++ bytes) (requests_in u.exchanges) (held_bytes (with_piece held bytes)) request
+      (held_bytes (with_piece after bytes)) (u.requests bytes) (next-grows held after request bytes u.not_shut next))
 
   replies-all : Along g caller (history ++ more) first_state all new
   replies-all =
@@ -296,12 +296,12 @@ pub takes-piece : (g : DaemonConfig) (taken written : List ℕ) (history : List 
     (stops : List ℕ)
     (state : State) (held : Held) (answered : ℕ) (piece : List ℕ)
     → IsUnderway g taken written history start caller stops state held answered
-    → IsUnderway g (taken ++ piece) written history start caller stops state (pushed held piece) answered
+    → IsUnderway g (taken ++ piece) written history start caller stops state (with_piece held piece) answered
 takes-piece g taken written history start caller stops state held answered piece u =
     record {
       exchanges = u.exchanges;
       requests = λ more.
-          subst (λ text. Takes text (requests_in u.exchanges) (held_bytes (pushed (pushed held piece) more)))
+          subst (λ text. Takes text (requests_in u.exchanges) (held_bytes (with_piece (with_piece held piece) more)))
           (sym (append_assoc taken piece more))
           (subst (Takes (taken ++ (piece ++ more)) (requests_in u.exchanges)) (sym (pushed-pushed held piece more))
           (u.requests (piece ++ more)));

@@ -28,7 +28,7 @@ use Rattle.kn_session.specs.Sessions.{Session}
 use Rattle.kn_session.specs.Calls.{text_fault}
 use Rattle.kn_daemon.specs.Played.{after_request, played, IsLastQuery}
 use Rattle.kn_daemon.specs.Alone.{IsServedAlone}
-use Rattle.kn_wire.specs.Feeding.{Held, Bytes, held_bytes, pushed, next_of}
+use Rattle.kn_wire.specs.Feeding.{Held, Bytes, held_bytes, with_piece, next_of}
 use Rattle.kn_daemon.specs.Served.{IsServed, is_bye, is_block}
 use Rattle.kn_daemon.specs.Underway.{IsUnderway, IsReplied, IsSmall}
 
@@ -42,7 +42,7 @@ abbrev pub TakesPiece : Type 0
 TakesPiece = (g : DaemonConfig) (taken written : List ℕ) (history : List Update) (start caller : ℕ) (stops : List ℕ)
     (state : State) (held : Held) (answered : ℕ) (piece : List ℕ)
     → IsUnderway g taken written history start caller stops state held answered
-    → IsUnderway g (taken ++ piece) written history start caller stops state (pushed held piece) answered
+    → IsUnderway g (taken ++ piece) written history start caller stops state (with_piece held piece) answered
 
 -- one more request that doesn't end the connection is answered
 abbrev pub AnswersOne : Type 0

@@ -8,7 +8,7 @@ use Rattle.kn_daemon.specs.Daemon.{DaemonConfig, State, first_state, session_of,
 use Rattle.kn_session.specs.Sessions.{Session}
 use Rattle.kn_daemon.specs.Linearized.{Exchange, Along, InOrder, StopsAt, StandsFor, is_placed, update_of, update_by}
 use Rattle.kn_daemon.specs.Linearized.{requests_in, texts_in}
-use Rattle.kn_wire.specs.Feeding.{Held, held_bytes, pushed, is_shut}
+use Rattle.kn_wire.specs.Feeding.{Held, held_bytes, with_piece, is_shut}
 use Rattle.kn_daemon.specs.Served.{GoesOn}
 use Rattle.kn_history.specs.History.{own_updates}
 
@@ -27,7 +27,7 @@ pub record IsUnderway (g : DaemonConfig) (taken written : List ℕ) (history : L
     (stops : List ℕ)
     (state : State) (held : Held) (answered : ℕ) : Type 0 where
   pub exchanges : List Exchange
-  pub requests : (more : List ℕ) → Takes (taken ++ more) (requests_in exchanges) (held_bytes (pushed held more))
+  pub requests : (more : List ℕ) → Takes (taken ++ more) (requests_in exchanges) (held_bytes (with_piece held more))
   pub not_shut : is_shut held ≡ false
   pub goes_on : GoesOn (requests_in exchanges)
   pub count : length exchanges ≡ answered

@@ -9,7 +9,7 @@ ghost use Rattle.kn_session.specs.Sessions.{start_fault, standing_fault, watch_w
 ghost use Rattle.kn_session.specs.Calls as Q;
 ghost use Rattle.kn_session.specs.Calls.{private_fault, has_private, retract_fault, set_fault, unset_fault};
 ghost use Rattle.kn_session.specs.Calls.{auth_fault, unauth_fault, add_private, take_private, set_attribute};
-ghost use Rattle.kn_session.specs.Calls.{unset_attribute, add_requester, take_requester, cleared};
+ghost use Rattle.kn_session.specs.Calls.{unset_attribute, add_requester, take_requester, clear_session};
 ghost use Rattle.kn_session.specs.Calls.{call_fault, call_fault_in, call_answer, after_call, call_may_lack_memory};
 ghost use Rattle.kn_examples.specs.Queries.{attribute};
 ghost use Rattle.kn_examples.specs.Histories.{numbered_text};
@@ -17,11 +17,11 @@ ghost use Rattle.kn_examples.specs.Sessions.{session, empty, assertion_by};
 
 /// CLEAR takes all attributes and all requesters, and leaves the rest.
 pub fn cleared_sessions()
-    ensures attributes { (cleared session).attributes ≡ [] }
-    ensures requesters { (cleared session).requesters ≡ [] }
-    ensures privates { (cleared session).privates ≡ session.privates }
-    ensures version { (cleared session).pinned ≡ session.pinned }
-    ensures standing { (cleared (watch_with [] session)).standing ≡ (watch_with [] session).standing }
+    ensures attributes { (clear_session session).attributes ≡ [] }
+    ensures requesters { (clear_session session).requesters ≡ [] }
+    ensures privates { (clear_session session).privates ≡ session.privates }
+    ensures version { (clear_session session).pinned ≡ session.pinned }
+    ensures standing { (clear_session (watch_with [] session)).standing ≡ (watch_with [] session).standing }
 {}
 
 /// A session's own assertions have ids that aren't used again.

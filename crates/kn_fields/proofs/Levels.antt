@@ -5,7 +5,7 @@ use Rattle.std.proofs.lemmas.List.{append_assoc}
 use Rattle.kn_fields.specs.Words.{Word, Mark}
 use Rattle.kn_fields.specs.Words.Word.{sign as sign_word}
 use Rattle.kn_fields.specs.Reading.{Read, Reader, map_read, then_read, closed_by, with_front, more_at, tail_at, list_at}
-use Rattle.kn_fields.specs.Reading.{marked}
+use Rattle.kn_fields.specs.Reading.{read_mark}
 use Rattle.kn_fields.proofs.Words.{marked_before, marked_there}
 use Rattle.kn_fields.proofs.Steps.{mapped, behind, fronted, chosen}
 
@@ -71,7 +71,7 @@ abbrev pub mark_level : {X E Y I D : Type 0} (text : List ℕ) (piece : Mark →
     → ((d : D) → ((i : I) × (d ≡ alone i)) ⊎ ((i : I) × (o : D) × (d ≡ more i o))) → Level Mark X E Y I D
 mark_level {X} {E} {Y} {I} {D} text piece make item_words item_tree words parts alone more alone_words alone_parts
     more_words more_parts split = record {
-      which = marked text;
+      which = read_mark text;
       piece = piece;
       finish = λ x others. make (piece tt x ++ others);
       sign = λ mark. sign_word text;
@@ -231,7 +231,7 @@ pub closed_sound : {D X : Type 0} (text : List ℕ) (words_of : D → List Word)
     → IsSound (λ d. words_of d ++ sign_word text ∷ []) tree_of (λ words. then_read (read words) (closed_by text))
 closed_sound text words_of tree_of read sound words x rest e =
     let b = behind (read words) (closed_by text) x rest e in
-    let m = mapped (λ mark. b.first) (marked text b.middle) x rest b.then_is in
+    let m = mapped (λ mark. b.first) (read_mark text b.middle) x rest b.then_is in
     let d = sound words b.first b.middle b.is in
     record {
       form = d.form;

@@ -7,7 +7,7 @@ use Rattle.std.proofs.lemmas.Slice.Eq.{bytes_eq-Decides}
 use Rattle.kn_lex.specs.Cutting.{TokenView}
 use Rattle.kn_fields.specs.Fields.{between}
 use Rattle.kn_fields.specs.Words.{Word, Mark, words_of, itself, mark_if}
-use Rattle.kn_fields.specs.Reading.{taken, marked, named}
+use Rattle.kn_fields.specs.Reading.{taken, read_mark, named}
 use Rattle.kn_fields.specs.Words.Word.{name, sign}
 use Rattle.kn_fields.proofs.Between.{steps, between_length}
 
@@ -34,11 +34,11 @@ not_itself wanted text differs = grind arith
 
 -- a sign that was there, and one that was not
 pub took : (there : Bool) (text written : List ℕ) (words rest : List Word) → there ≡ true
-    → mark_if there rest ≡ marked text words → text ≡ written → marked written words ≡ Some (tt, rest)
+    → mark_if there rest ≡ read_mark text words → text ≡ written → read_mark written words ≡ Some (tt, rest)
 took there text written words rest came is same = grind arith
 
 pub passed : (there : Bool) (text written : List ℕ) (words rest : List Word) → there ≡ false
-    → mark_if there rest ≡ marked text words → text ≡ written → marked written words ≡ None
+    → mark_if there rest ≡ read_mark text words → text ≡ written → read_mark written words ≡ None
 passed there text written words rest came is same = grind arith
 
 -- a sign is taken from the front
@@ -63,12 +63,12 @@ unfolding taken
 taken_there which text rest found e = grind arith
 
 -- so is a sign that stands for itself
-pub marked_before : (text : List ℕ) (words rest : List Word) (mark : Mark) → marked text words ≡ Some (mark, rest)
+pub marked_before : (text : List ℕ) (words rest : List Word) (mark : Mark) → read_mark text words ≡ Some (mark, rest)
     → words ≡ sign text ∷ rest
 unfolding taken itself
 marked_before text words rest mark e = grind (arith, bytes_eq-Decides)
 
-pub marked_there : (text : List ℕ) (rest : List Word) → marked text (sign text ∷ rest) ≡ Some (tt, rest)
+pub marked_there : (text : List ℕ) (rest : List Word) → read_mark text (sign text ∷ rest) ≡ Some (tt, rest)
 unfolding taken itself
 marked_there text rest = grind (arith, bytes_eq-Decides)
 

@@ -18,8 +18,8 @@ taken which (sign text ∷ words) = with_rest (which text) words
 taken which words = None
 
 -- this sign at the front, and the words behind it
-abbrev pub marked : List ℕ → Reader Mark
-marked text words = taken (itself text) words
+abbrev pub read_mark : List ℕ → Reader Mark
+read_mark text words = taken (itself text) words
 
 -- this name at the front, and the words behind it
 unfoldable pub named : List ℕ → Reader Mark
@@ -43,7 +43,7 @@ behind_sign (Some found) otherwise go = go found.0 found.1
 
 -- what this closing sign follows
 abbrev pub closed_by : {X : Type 0} → List ℕ → X → Reader X
-closed_by text read rest = map_read (λ mark. read) (marked text rest)
+closed_by text read rest = map_read (λ mark. read) (read_mark text rest)
 
 abbrev pub with_front : {E : Type 0} → List E → Read (List E) → Read (List E)
 with_front front None = None

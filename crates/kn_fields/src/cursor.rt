@@ -4,7 +4,7 @@ ghost use Rattle.std.specs.Option.{option_map};
 ghost use Rattle.kn_lex.specs.TokenViews.{token_view};
 ghost use Rattle.kn_fields.specs.Fields.{between};
 ghost use Rattle.kn_fields.specs.Words.{words_of, word_of, first_sign, rest_of, mark_if};
-ghost use Rattle.kn_fields.specs.Reading.{Reads, marked, named};
+ghost use Rattle.kn_fields.specs.Reading.{Reads, read_mark, named};
 
 use crate::field_span::FieldSpan;
 use crate::grammar_fault::GrammarFault;
@@ -107,7 +107,7 @@ impl<'t, 'a> Cursor<'t, 'a> {
     #[inline(always)]
     #[tactic(auto, unfolding(crate::specs::Reading::taken, crate::specs::Words::itself))]
     pub fn is_sign(&self, text: &[u8]) -> bool
-        ensures { mark_if result (rest_of self.now) ≡ marked text.now self.now }
+        ensures { mark_if result (rest_of self.now) ≡ read_mark text.now self.now }
     {
         let Some(next) = self.sign() else {
             return false;
@@ -122,7 +122,7 @@ impl<'t, 'a> Cursor<'t, 'a> {
     /// Whether this sign came next; then it is passed.
     #[inline(always)]
     pub fn take_sign(&mut self, text: &[u8]) -> bool
-        ensures taken { mark_if result self.new ≡ marked text.now self.old }
+        ensures taken { mark_if result self.new ≡ read_mark text.now self.old }
         ensures kept { result ≡ false → self.new ≡ self.old }
     {
         let there = self.is_sign(text);
@@ -135,7 +135,7 @@ impl<'t, 'a> Cursor<'t, 'a> {
     /// Passes this sign, which has to come next.
     #[inline(always)]
     pub fn expect_sign(&mut self, text: &[u8]) -> Result<(), GrammarFault>
-        ensures { Reads result (marked text.now self.old) self.new }
+        ensures { Reads result (read_mark text.now self.old) self.new }
     {
         if self.take_sign(text) {
             Ok(())

@@ -29,7 +29,8 @@ use Rattle.kn_lex.specs.declared.token.Sort.TheVariants.{Label, Body as BodySort
 use Rattle.kn_lex.proofs.ScannedLengths.{both, same_byte, gap_white, choice, colon_found}
 use Rattle.kn_lex.proofs.Scans.{is_blank-cons, take_next}
 use Rattle.kn_lex.proofs.Literals.{literal_found}
-use Rattle.kn_files.specs.Lines.{lines_of, joined, after_byte, after_line, at_line_start, is_of_comment, is_literal}
+use Rattle.kn_files.specs.Lines.{lines_of, bytes_of_lines, after_byte, after_line, at_line_start, is_of_comment}
+use Rattle.kn_files.specs.Lines.{is_literal}
 use Rattle.kn_files.specs.declared.within.Within.{Within}
 use Rattle.kn_files.specs.declared.within.Within.TheVariants.{Plain, Comment, Body, Literal}
 use Rattle.kn_files.proofs.Splitting.{line_size, line_size_whole, joined_lines}
@@ -38,7 +39,7 @@ use Rattle.kn_files.proofs.Splitting.{line_size, line_size_whole, joined_lines}
 abbrev pub AtCuts : (List ℕ → Type 0) → Within → List (List ℕ) → Type 0
 AtCuts P within [] = Unit {0}
 AtCuts P within (line ∷ lines) =
-    ((not (is_literal within) && is_blank line) ≡ true → P (joined (line ∷ lines)))
+    ((not (is_literal within) && is_blank line) ≡ true → P (bytes_of_lines (line ∷ lines)))
     × AtCuts P (after_line within line) lines
 
 -- so it does behind the rest of a line
@@ -97,7 +98,8 @@ line_on P within [] cut here = tt
 line_on P within (c ∷ cs) cut here =
     subst (AtCuts P within) (sym whole) (
       λ e. subst P (sym (joined_lines (c ∷ cs))
-          ∙ ap joined whole) (cut (ap (λ (b : Bool). not (is_literal within) && b) (sym (first_blank (c ∷ cs))) ∙ e)),
+          ∙ ap bytes_of_lines whole) (cut (ap (λ (b : Bool). not (is_literal within) && b) (sym (first_blank (c ∷ cs)))
+          ∙ e)),
       subst (λ (w : Within). AtCuts P w (lines_of (drop (line_size (c ∷ cs)) (c ∷ cs)))) (sym (begin_after within line))
           (subst (Behind P (begin within line)) whole here),
     )

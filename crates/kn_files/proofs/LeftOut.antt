@@ -9,7 +9,8 @@ use Rattle.std.proofs.lemmas.Bool.Decides.{nat_tests}
 use Rattle.std.proofs.lemmas.List.Folds.{list_any-append}
 use Rattle.kn_lex.specs.Spelling.{is_white_space, is_comment, Spells}
 use Rattle.kn_lex.specs.Between.{is_line_end, Skips}
-use Rattle.kn_lex.specs.Cutting.{start, context_after, IsLexeme, Reaches, place_after, is_token, tokens_of, Cuts, spent}
+use Rattle.kn_lex.specs.Cutting.{start, context_after, IsLexeme, Reaches, place_after, is_token, tokens_of, Cuts}
+use Rattle.kn_lex.specs.Cutting.{lexeme_bytes}
 use Rattle.kn_lex.specs.Faults.{goes_on, IsFaultless}
 use Rattle.kn_lex.specs.Scanning.{lexeme_at, plain_lexeme, white_len, line_len, fault_at, zero_fault, zero_place}
 use Rattle.kn_lex.specs.declared.lexeme.Lexeme.{Lexeme}
@@ -254,7 +255,7 @@ left_out text e =
           let o = h.1.has in
           let quiet = quiet_along o.lexemes start text o.place o.left o.reached (λ k. absurd (cc)) parts.0 in
           absurd (subst (Least h.0)
-          (quiet_clean o.place (spent o.lexemes) o.left quiet.1 quiet.2
+          (quiet_clean o.place (lexeme_bytes o.lexemes) o.left quiet.1 quiet.2
           (no_zero_left o.lexemes start text o.place o.left o.reached parts.1))
-          (shown_least o.place (spent o.lexemes) o.left h.0 o.shown))
+          (shown_least o.place (lexeme_bytes o.lexemes) o.left h.0 o.shown))
     ]

@@ -14,7 +14,7 @@ use Rattle.kn_files.specs.Lines.{after_byte, is_literal, after_line, at_line_sta
 use Rattle.kn_files.specs.Literals.{leaves_out}
 use Rattle.kn_files.specs.declared.within.Within.{Within}
 use Rattle.kn_files.specs.declared.within.Within.TheVariants.{Plain, Comment, Literal, Body}
-use Rattle.kn_files.specs.Splitting.{is_bare, ends_bare, settled}
+use Rattle.kn_files.specs.Splitting.{is_bare, ends_bare, settle_comment}
 
 abbrev quote_of : Bool → Quote
 quote_of true = Joined
@@ -109,7 +109,7 @@ no_body within c e = grind (arith, nat_tests)
 
 -- the last two bytes decide
 bare_line : (line : List ℕ) (within : Within) → is_body within ≡ false → ends_bare line ≡ true
-    → settled (fold after_byte within line) ≡ Plain
+    → settle_comment (fold after_byte within line) ≡ Plain
 bare_line [] within e bare = absurd (false≢true bare)
 bare_line (a ∷ []) within e bare = absurd (false≢true bare)
 bare_line (a ∷ b ∷ []) within e bare = grind (arith, nat_tests)
@@ -119,7 +119,7 @@ start_no_body : (within : Within) → is_body (at_line_start within) ≡ false
 start_no_body within = grind arith
 
 pub bare_next : (within : Within) (line : List ℕ) → is_of_comment within line ≡ false → ends_bare line ≡ true
-    → Plain ≡ settled (after_line within line)
+    → Plain ≡ settle_comment (after_line within line)
 unfolding after_line
 bare_next within line other bare = rw other (sym (bare_line line (at_line_start within) (start_no_body within) bare))
 

@@ -16,7 +16,8 @@ use Rattle.kn_base.specs.declared.span.Span.{Span}
 use Rattle.kn_lex.specs.Spelling.{is_continuation}
 use Rattle.kn_lex.specs.Cutting.{ends_line, is_comment_label}
 use Rattle.kn_lex.proofs.ScannedLengths.{choice}
-use Rattle.kn_files.specs.Lines.{Line, lines_of, are_lines, joined, placed, is_cut, is_literal, after_byte, after_line}
+use Rattle.kn_files.specs.Lines.{Line, lines_of, are_lines, bytes_of_lines, place_lines, is_cut, is_literal, after_byte}
+use Rattle.kn_files.specs.Lines.{after_line}
 use Rattle.kn_files.specs.Pieces.{text_of, span_of, spans_of, IsWithin, IsLineBreak, HasWholeLines}
 use Rattle.kn_files.specs.Paragraphs.{lines_in, ends_at_cut, begins_at_cut, IsParagraph, IsOfParagraph, IsOfLines}
 use Rattle.kn_files.specs.Paragraphs.{HasLine, LacksLine, AreOfComment}
@@ -200,15 +201,15 @@ line_paragraph file line i =
 record Placed (at : ℕ) (rest : List Line) : Type 0 where
   within : Within
   lines : List (List ℕ)
-  here : placed within at lines ≡ rest
+  here : place_lines within at lines ≡ rest
 
 skip : (before rest : List Line) (lines : List (List ℕ)) (within : Within) (at : ℕ)
-    → placed within at lines ≡ before ++ rest → Placed (at + length (text_of before)) rest
+    → place_lines within at lines ≡ before ++ rest → Placed (at + length (text_of before)) rest
 skip [] rest lines within at e = record {
   within = within;
   lines = lines;
   here = let same : at + 0 ≡ at = omega arith in
-      ap (λ k. placed within k lines) same ∙ e;
+      ap (λ k. place_lines within k lines) same ∙ e;
 }
 skip (x ∷ before) rest [] within at e = absurd (cc)
 skip (x ∷ before) rest (bytes ∷ lines) within at e =
@@ -217,7 +218,7 @@ skip (x ∷ before) rest (bytes ∷ lines) within at e =
 starts_at : (at : ℕ) (line : Line) (behind : List Line) → Placed at (line ∷ behind) → line.start ≡ at
 starts_at at line behind p = by p.lines p.here
   where
-    by : (lines : List (List ℕ)) → placed p.within at lines ≡ line ∷ behind → line.start ≡ at
+    by : (lines : List (List ℕ)) → place_lines p.within at lines ≡ line ∷ behind → line.start ≡ at
     by [] e = absurd (cc)
     by (bytes ∷ lines) e = let own : record { within = p.within; start = at; bytes = bytes } ≡ line = cc in
         ap (λ (l : Line). l.start) (sym own)
@@ -292,7 +293,8 @@ blank_outside file line span i cut found =
 
 -- the spans are in the file and have whole lines
 
-text_whole : (lines : List (List ℕ)) (within : Within) (at : ℕ) → text_of (placed within at lines) ≡ joined lines
+text_whole : (lines : List (List ℕ)) (within : Within) (at : ℕ)
+    → text_of (place_lines within at lines) ≡ bytes_of_lines lines
 text_whole [] within at = refl
 text_whole (line ∷ lines) within at =
     ap (λ text. line ++ text) (text_whole lines (after_line within line) (at + length line))
@@ -308,7 +310,7 @@ text_in file before behind here =
     )
 
 whole_front : (lines : List (List ℕ)) (within : Within) (at : ℕ) (xs : List ℕ) (before : List Line) (y : Line)
-    (ys : List Line) → placed within at lines ≡ before ++ y ∷ ys
+    (ys : List Line) → place_lines within at lines ≡ before ++ y ∷ ys
     → are_lines lines ≡ true → AreWholeBefore lines xs → AreWhole (xs ++ text_of before)
 whole_front [] within at xs [] y ys e l w = absurd (cc)
 whole_front [] within at xs (x ∷ before) y ys e l w = absurd (cc)
@@ -366,7 +368,7 @@ unfolding after_line
 body_line bytes on = grind arith
 
 body_goes_on : (comment : List Line) (lines : List (List ℕ)) (within : Within) (at : ℕ) (next : Line)
-    (behind : List Line) → placed within at lines ≡ comment ++ next ∷ behind
+    (behind : List Line) → place_lines within at lines ≡ comment ++ next ∷ behind
     → within ≡ Body → list_all (λ further. is_continuation further.bytes) comment ≡ true → next.within ≡ Body
 body_goes_on [] [] within at next behind e body all = absurd (cc)
 body_goes_on (further ∷ comment) [] within at next behind e body all = absurd (cc)
@@ -383,12 +385,13 @@ comment_opens_nothing file before (line ∷ comment) next behind here c =
     ∙ append_assoc before (line ∷ comment) (next ∷ behind)) in
     ap is_literal (by (0 + length (text_of before)) p.within p.lines p.here)
   where
-    by : (at : ℕ) (within : Within) (lines : List (List ℕ)) → placed within at lines ≡ line ∷ (comment ++ next ∷ behind)
+    by : (at : ℕ) (within : Within) (lines : List (List ℕ))
+        → place_lines within at lines ≡ line ∷ (comment ++ next ∷ behind)
         → next.within ≡ Body
     by at within [] e = absurd (cc)
     by at within (bytes ∷ lines) e =
         let own : record { within = within; start = at; bytes = bytes } ≡ line = cc in
-        let rest : placed (after_line within bytes) (at + length bytes) lines ≡ comment ++ next ∷ behind = cc in
+        let rest : place_lines (after_line within bytes) (at + length bytes) lines ≡ comment ++ next ∷ behind = cc in
         body_goes_on comment lines (after_line within bytes) (at + length bytes) next behind rest
         (ap (λ (l : Line). after_line l.within l.bytes) own ∙ label_line line.within line.bytes c.0 c.1) c.2
 

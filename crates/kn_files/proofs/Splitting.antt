@@ -13,10 +13,11 @@ use Rattle.kn_lex.specs.Scanning.{line_len}
 use Rattle.kn_lex.specs.Spelling.{is_blank}
 use Rattle.kn_lex.specs.Cutting.{ends_line}
 use Rattle.kn_lex.proofs.Scans.{take_next, drop_next}
-use Rattle.kn_files.specs.Lines.{lines_of, Line, joined, placed, is_cut, is_literal, after_line, is_line, are_lines}
+use Rattle.kn_files.specs.Lines.{lines_of, Line, bytes_of_lines, place_lines, is_cut, is_literal, after_line, is_line}
+use Rattle.kn_files.specs.Lines.{are_lines}
 use Rattle.kn_files.specs.Pieces.{is_assertion, text_of, span_of, spans_of, StandApart}
 use Rattle.kn_files.specs.Paragraphs.{lines_in}
-use Rattle.kn_files.specs.Splitting.{span_if, settled}
+use Rattle.kn_files.specs.Splitting.{span_if, settle_comment}
 use Rattle.kn_files.specs.declared.within.Within.{Within}
 use Rattle.kn_files.specs.declared.within.Within.TheVariants.{Plain}
 
@@ -95,7 +96,7 @@ held_more (first ∷ lines) start at front line h e =
 
 spans_along : (lines : List (List ℕ)) (held : List Line) (start at : ℕ) (front : List ℕ) (within : Within)
     → IsHeld held start front → at ≡ start + length front
-    → chosen (parts_from held (placed within at lines)) ≡ spans_from start front within lines
+    → chosen (parts_from held (place_lines within at lines)) ≡ spans_from start front within lines
 unfolding IsHeld
 spans_along [] held start at front within h e = chosen-cons held start front [] h ∙ append-nil (span_if start front)
 spans_along (line ∷ lines) held start at front within h e =
@@ -139,7 +140,7 @@ next_line file at rest line n within l = grind (arith, length-take-le, length-dr
 
 -- a line's end makes no difference between a comment and what stands outside
 spans_settled : (start : ℕ) (front : List ℕ) (within : Within) (lines : List (List ℕ))
-    → spans_from start front within lines ≡ spans_from start front (settled within) lines
+    → spans_from start front within lines ≡ spans_from start front (settle_comment within) lines
 unfolding after_line
 spans_settled start front within [] = refl
 spans_settled start front within (line ∷ lines) = grind arith
@@ -147,7 +148,7 @@ spans_settled start front within (line ∷ lines) = grind arith
 -- one line on
 split_next : (file line : List ℕ) (start at begin : ℕ) (within next : Within) (spans new : List Span)
     → IsSplit file start at within spans → IsNext file at line
-    → begin ≤ at + length line → settled next ≡ settled (after_line within line)
+    → begin ≤ at + length line → settle_comment next ≡ settle_comment (after_line within line)
     → new ++ spans_from begin (take (at + length line - begin) (drop begin file)) (after_line within line)
     (lines_of (drop (at + length line) file))
     ≡ spans ++ spans_from start (take (at - start) (drop start file)) within
@@ -159,7 +160,7 @@ split_next file line start at begin within next spans new h n order e step = gri
 pub split_on : (file rest line : List ℕ) (start at n : ℕ) (within next : Within) (spans new : List Span)
     → IsSplit file start at within spans
     → IsFirstLine file at rest line n → (not (is_literal within) && is_blank line) ≡ false
-    → settled next ≡ settled (after_line within line) → new ≡ spans
+    → settle_comment next ≡ settle_comment (after_line within line) → new ≡ spans
     → IsSplit file start (at + length line) next new
 split_on file rest line start at n within next spans new h l test e same =
     let next_is = next_line file at rest line n h.inside l in
@@ -177,7 +178,7 @@ split_on file rest line start at n within next spans new h l test e same =
 pub split_cut : (file rest line : List ℕ) (start at n : ℕ) (within next : Within) (spans new : List Span)
     → IsSplit file start at within spans
     → IsFirstLine file at rest line n → (not (is_literal within) && is_blank line) ≡ true
-    → settled next ≡ settled (after_line within line)
+    → settle_comment next ≡ settle_comment (after_line within line)
     → new ≡ spans ++ span_if start (take (at - start) (drop start file))
     → IsSplit file (at + length line) (at + length line) next new
 split_cut file rest line start at n within next spans new h l test e pushed =
@@ -198,10 +199,10 @@ pub assertion_some : (text : List ℕ) → is_assertion text ≡ true → 0 < le
 assertion_some [] e = absurd (cc)
 assertion_some (byte ∷ bytes) e = omega arith
 
-front_joined : (byte : ℕ) (lines : List (List ℕ)) → joined (onto_first byte lines) ≡ byte ∷ joined lines
+front_joined : (byte : ℕ) (lines : List (List ℕ)) → bytes_of_lines (onto_first byte lines) ≡ byte ∷ bytes_of_lines lines
 front_joined byte lines = grind arith
 
-pub joined_lines : (file : List ℕ) → joined (lines_of file) ≡ file
+pub joined_lines : (file : List ℕ) → bytes_of_lines (lines_of file) ≡ file
 unfolding lines_of
 joined_lines [] = refl
 joined_lines (byte ∷ bytes) = grind (arith, joined_lines bytes, front_joined)
@@ -245,12 +246,12 @@ cut_line [] rest e n = absurd (false≢true e)
 cut_line (byte ∷ []) rest e n = grind arith
 cut_line (byte ∷ next ∷ bytes) rest e n = grind (arith, cut_line (next ∷ bytes) rest)
 
-pub lines_of_joined : (lines : List (List ℕ)) → are_lines lines ≡ true → lines_of (joined lines) ≡ lines
+pub lines_of_joined : (lines : List (List ℕ)) → are_lines lines ≡ true → lines_of (bytes_of_lines lines) ≡ lines
 unfolding lines_of
 lines_of_joined [] e = refl
 lines_of_joined (line ∷ []) e = ap lines_of (append-nil line) ∙ cut_last line e
 lines_of_joined (line ∷ next ∷ lines) e =
-    grind (arith, cut_line line (joined (next ∷ lines)), lines_of_joined (next ∷ lines))
+    grind (arith, cut_line line (bytes_of_lines (next ∷ lines)), lines_of_joined (next ∷ lines))
 
 -- the spans stand apart
 

@@ -26,7 +26,7 @@ use Rattle.kn_lex.proofs.Lexemes.{lexeme_is}
 use Rattle.kn_lex.proofs.Scans.{is_blank-cons}
 use Rattle.kn_lex.proofs.OneLexing.{IsClean}
 use Rattle.kn_lex.proofs.LexerStates.{IsReached, IsFinished, reached_start, reached_step, every_cutting, one_list}
-use Rattle.kn_files.specs.Lines.{lines_of, is_line, are_lines, joined, after_line, is_literal}
+use Rattle.kn_files.specs.Lines.{lines_of, is_line, are_lines, bytes_of_lines, after_line, is_literal}
 use Rattle.kn_files.specs.Pieces.{is_assertion, spans_of}
 use Rattle.kn_files.specs.Splitting.{span_if}
 use Rattle.kn_files.specs.declared.within.Within.{Within}
@@ -152,7 +152,7 @@ assertion_append : (xs ys : List ℕ) → AreWhole xs → is_assertion (xs ++ ys
 assertion_append xs ys w = grind (arith, goes_on_lines, list_any-append)
 
 assertion_joined : (xs : List ℕ) (lines : List (List ℕ)) → AreWholeBefore lines xs
-    → is_assertion (xs ++ joined lines) ≡ (is_assertion xs || is_assertion (joined lines))
+    → is_assertion (xs ++ bytes_of_lines lines) ≡ (is_assertion xs || is_assertion (bytes_of_lines lines))
 assertion_joined xs lines w = grind (arith, append-nil, assertion_append)
 
 blank_line : (line : List ℕ) → is_line line ≡ true → is_blank line ≡ true → is_assertion line ≡ false
@@ -174,34 +174,36 @@ count_or x y e = grind arith
 
 count_cut : (text : List ℕ) (line : List ℕ) (lines : List (List ℕ)) (before front : List ℕ)
     → are_lines (line ∷ lines) ≡ true → is_blank line ≡ true
-    → text ≡ before ++ joined (line ∷ lines) → AreWhole front
-    → (is_assertion before ≡ false → is_assertion front ≡ false) → IsApart text (joined (line ∷ lines))
-    → count_of (is_assertion front) + count_of (is_assertion (joined lines))
-    ≡ count_of (is_assertion (front ++ joined (line ∷ lines)))
+    → text ≡ before ++ bytes_of_lines (line ∷ lines) → AreWhole front
+    → (is_assertion before ≡ false → is_assertion front ≡ false) → IsApart text (bytes_of_lines (line ∷ lines))
+    → count_of (is_assertion front) + count_of (is_assertion (bytes_of_lines lines))
+    ≡ count_of (is_assertion (front ++ bytes_of_lines (line ∷ lines)))
 count_cut text line lines before front l blank e w silent apart =
-    count_or (is_assertion front) (is_assertion (joined lines)) (by apart)
+    count_or (is_assertion front) (is_assertion (bytes_of_lines lines)) (by apart)
     ∙ ap count_of (ap (λ (b : Bool). is_assertion front || b) (sym behind)
-    ∙ sym (assertion_append front (joined (line ∷ lines)) w))
+    ∙ sym (assertion_append front (bytes_of_lines (line ∷ lines)) w))
   where
-    behind : is_assertion (joined (line ∷ lines)) ≡ is_assertion (joined lines)
+    behind : is_assertion (bytes_of_lines (line ∷ lines)) ≡ is_assertion (bytes_of_lines lines)
     behind = assertion_joined line lines (whole_behind [] line lines l)
         ∙ rw (blank_line line (first_line line lines l) blank) refl
 
-    by : IsApart text (joined (line ∷ lines)) → (is_assertion front ≡ false) ⊎ (is_assertion (joined lines) ≡ false)
+    by : IsApart text (bytes_of_lines (line ∷ lines)) → (is_assertion front ≡ false)
+        ⊎ (is_assertion (bytes_of_lines lines) ≡ false)
     by (inl none) = inr (sym behind ∙ none)
     by (inr s) =
-        let same : before ≡ s.front = append_cancel_right before s.front (joined (line ∷ lines)) (sym e ∙ s.whole) in
+        let same : before ≡ s.front = append_cancel_right before s.front (bytes_of_lines (line ∷ lines)) (sym e
+        ∙ s.whole) in
         inl (silent (ap is_assertion same ∙ rw (s.quiet, s.no_zero) refl))
 
 count : (text : List ℕ) (lines : List (List ℕ)) (before front : List ℕ) (start : ℕ) (within : Within)
-    → are_lines lines ≡ true → text ≡ before ++ joined lines
+    → are_lines lines ≡ true → text ≡ before ++ bytes_of_lines lines
     → AreWholeBefore lines before → AreWholeBefore lines front
     → (is_assertion before ≡ false → is_assertion front ≡ false) → AtCuts (IsApart text) within lines
-    → length (spans_from start front within lines) ≡ count_of (is_assertion (front ++ joined lines))
+    → length (spans_from start front within lines) ≡ count_of (is_assertion (front ++ bytes_of_lines lines))
 count text [] before front start within l e b f silent at = count_if start front
     ∙ ap (λ (bs : List ℕ). count_of (is_assertion bs)) (sym (append-nil front))
 count text (line ∷ lines) before front start within l e b f silent at =
-    choice (λ spans. length spans ≡ count_of (is_assertion (front ++ joined (line ∷ lines))))
+    choice (λ spans. length spans ≡ count_of (is_assertion (front ++ bytes_of_lines (line ∷ lines))))
     (not (is_literal within) && is_blank line)
     (span_if start front ++ behind) (spans_from start (front ++ line) (after_line within line) lines)
     (λ t.
@@ -214,7 +216,7 @@ count text (line ∷ lines) before front start within l e b f silent at =
     (λ _.
     count text lines (before ++ line) (front ++ line) start (after_line within line) more whole
     (whole_behind before line lines l) (whole_behind front line lines l) longer at.1
-    ∙ ap (λ (bs : List ℕ). count_of (is_assertion bs)) (append_assoc front line (joined lines)))
+    ∙ ap (λ (bs : List ℕ). count_of (is_assertion bs)) (append_assoc front line (bytes_of_lines lines)))
   where
     behind : List Span
     behind = spans_from (start + length front + length line) [] (after_line within line) lines
@@ -222,8 +224,8 @@ count text (line ∷ lines) before front start within l e b f silent at =
     more : are_lines lines ≡ true
     more = more_lines line lines l
 
-    whole : text ≡ (before ++ line) ++ joined lines
-    whole = e ∙ sym (append_assoc before line (joined lines))
+    whole : text ≡ (before ++ line) ++ bytes_of_lines lines
+    whole = e ∙ sym (append_assoc before line (bytes_of_lines lines))
 
     longer : is_assertion (before ++ line) ≡ false → is_assertion (front ++ line) ≡ false
     longer n =

@@ -29,9 +29,9 @@ are_lines (line ∷ []) = is_line line
 are_lines (line ∷ next ∷ lines) = is_line line && ends_line line && are_lines (next ∷ lines)
 
 -- the bytes of lines
-abbrev pub joined : List (List ℕ) → List ℕ
-joined [] = []
-joined (line ∷ lines) = line ++ joined lines
+abbrev pub bytes_of_lines : List (List ℕ) → List ℕ
+bytes_of_lines [] = []
+bytes_of_lines (line ∷ lines) = line ++ bytes_of_lines lines
 
 -- what a byte leads into that stands outside comments and literals
 abbrev pub after_plain : ℕ → Within
@@ -75,10 +75,10 @@ pub record Line : Type 0 where
   pub bytes : List ℕ
 
 -- the lines one behind the other, the first at this place
-abbrev pub placed : Within → ℕ → List (List ℕ) → List Line
-placed within at [] = []
-placed within at (line ∷ lines) =
-    record { within = within; start = at; bytes = line } ∷ placed (after_line within line) (at + length line) lines
+abbrev pub place_lines : Within → ℕ → List (List ℕ) → List Line
+place_lines within at [] = []
+place_lines within at (line ∷ lines) =
+    record { within = within; start = at; bytes = line } ∷ place_lines (after_line within line) (at + length line) lines
 
 -- the line is blank and no literal is open where it begins
 abbrev pub is_cut : Line → Bool

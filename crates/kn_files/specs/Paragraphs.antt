@@ -4,13 +4,13 @@ use Rattle.std.specs.List.{list_all, list_any}
 use Rattle.kn_base.specs.declared.span.Span.{Span}
 use Rattle.kn_lex.specs.Spelling.{is_continuation}
 use Rattle.kn_lex.specs.Cutting.{is_comment_label}
-use Rattle.kn_files.specs.Lines.{Line, lines_of, placed, is_cut, is_literal}
+use Rattle.kn_files.specs.Lines.{Line, lines_of, place_lines, is_cut, is_literal}
 use Rattle.kn_files.specs.Pieces.{is_assertion, text_of, span_of}
 use Rattle.kn_files.specs.declared.within.Within.TheVariants.{Plain}
 
 -- the lines of a file, each with its place and what it begins in
 abbrev pub lines_in : List ℕ → List Line
-lines_in file = placed Plain 0 (lines_of file)
+lines_in file = place_lines Plain 0 (lines_of file)
 
 -- there are no lines, or the last one is blank and begins outside literals
 abbrev pub ends_at_cut : List Line → Bool

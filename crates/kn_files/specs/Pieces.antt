@@ -5,7 +5,7 @@ use Rattle.std.specs.List.{slice_split, list_any}
 use Rattle.kn_base.specs.declared.span.Span.{Span}
 use Rattle.kn_lex.specs.Cutting.{ends_line}
 use Rattle.kn_lex.specs.Faults.{goes_on}
-use Rattle.kn_files.specs.Lines.{Line, lines_of, placed, is_cut}
+use Rattle.kn_files.specs.Lines.{Line, lines_of, place_lines, is_cut}
 use Rattle.kn_files.specs.declared.within.Within.TheVariants.{Plain}
 
 -- The text has a token or a lexical fault: a byte that is neither white space nor in a comment, or a byte 0.
@@ -25,7 +25,8 @@ span_of (line ∷ lines) = record { start = line.start; end = line.start + lengt
 -- a fault is left out.
 unfoldable pub spans_of : List ℕ → List Span
 spans_of file =
-    map span_of (filter (λ lines. is_assertion (text_of lines)) (slice_split is_cut (placed Plain 0 (lines_of file))))
+    map span_of (filter (λ lines. is_assertion (text_of lines))
+    (slice_split is_cut (place_lines Plain 0 (lines_of file))))
 
 -- the bytes at a span
 abbrev pub bytes_at : List ℕ → Span → List ℕ

@@ -22,8 +22,8 @@ ends_bare (byte ∷ next ∷ []) = is_bare byte && next == 10
 ends_bare (byte ∷ next ∷ more ∷ bytes) = ends_bare (next ∷ more ∷ bytes)
 
 -- a line's end makes no difference between a comment and what stands outside
-abbrev pub settled : Within → Within
-settled Plain = Plain
-settled Comment = Plain
-settled Body = Body
-settled (Literal quote) = Literal quote
+abbrev pub settle_comment : Within → Within
+settle_comment Plain = Plain
+settle_comment Comment = Plain
+settle_comment Body = Body
+settle_comment (Literal quote) = Literal quote

@@ -7,7 +7,8 @@ ghost use Rattle.kn_lex.specs.Spelling.{is_continuation, Item, is_item, items_by
 ghost use Rattle.kn_lex.specs.Cutting.{TokenView, Cuts, is_comment_label};
 ghost use Rattle.kn_lex.specs.Faults.{IsFaultless};
 ghost use Rattle.kn_base.specs.declared.span.Span.{Span};
-ghost use Rattle.kn_files.specs.Lines.{Line, lines_of, are_lines, joined, after_byte, after_line, is_literal, is_cut};
+ghost use Rattle.kn_files.specs.Lines.{Line, lines_of, are_lines, bytes_of_lines, after_byte, after_line};
+ghost use Rattle.kn_files.specs.Lines.{is_literal, is_cut};
 ghost use Rattle.kn_files.specs.Literals.{leaves_out};
 ghost use Rattle.kn_files.specs.Paragraphs.{lines_in, IsParagraph, IsOfParagraph, IsOfLines};
 ghost use Rattle.kn_files.specs.Paragraphs.{HasLine, LacksLine, AreOfComment};
@@ -17,9 +18,9 @@ ghost use Rattle.kn_files.specs.declared.within.Within.{Within};
 /// The lines of a file are those that make it up, and there is one way only to cut it into lines.
 #[tactic(auto, using(crate::proofs::Splitting::line_facts))]
 pub fn lines_of_file()
-    ensures joined { (file : List ℕ) → joined (lines_of file) ≡ file }
+    ensures bytes_of_lines { (file : List ℕ) → bytes_of_lines (lines_of file) ≡ file }
     ensures lines { (file : List ℕ) → are_lines (lines_of file) ≡ true }
-    ensures only { (lines : List (List ℕ)) → are_lines lines ≡ true → lines_of (joined lines) ≡ lines }
+    ensures only { (lines : List (List ℕ)) → are_lines lines ≡ true → lines_of (bytes_of_lines lines) ≡ lines }
 {}
 
 /// How literals and comments go on in a line. A literal of an assertion ends with its closing quote; behind

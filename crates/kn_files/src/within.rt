@@ -2,7 +2,7 @@
 ghost use Rattle.std.specs.Prelude.{◌≡◌, take, fold};
 ghost use Rattle.kn_lex.specs.Cutting.{is_comment_label};
 ghost use Rattle.kn_files.specs.Lines.{after_plain, after_byte, at_line_start, is_of_comment, after_line, is_literal};
-ghost use Rattle.kn_files.specs.Splitting.{ends_bare, settled};
+ghost use Rattle.kn_files.specs.Splitting.{ends_bare, settle_comment};
 
 use kn_lex::{Quote, Step, is_comment_label, is_continuation, quote_step};
 
@@ -95,7 +95,7 @@ fn ends_bare(line: &[u8]) -> bool
 /// What the next line begins in. Whether a comment stands at the end of the line isn't said.
 #[tactic(auto, using(crate::proofs::Literals::bare_next), unfolding(crate::specs::Lines::after_line))]
 pub(crate) fn after_line(within: Within, line: &[u8]) -> Within
-    ensures { settled result ≡ settled (after_line within line.now) }
+    ensures { settle_comment result ≡ settle_comment (after_line within line.now) }
 {
     if is_of_comment(within, line) {
         Within::Body

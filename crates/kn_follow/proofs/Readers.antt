@@ -9,7 +9,7 @@ use Rattle.std.proofs.lemmas.Bool.Decides.{Decides-eqb}
 use Rattle.std.proofs.lemmas.List.{append-nil, append_cancel_right, length-append, length-take, length-replicate}
 use Rattle.std.proofs.lemmas.List.{take-append-drop, take_at, drop_at}
 use lib.ListN.{replicate}
-use Rattle.kn_follow.specs.Reading.{Read, ◌>>=◌, both, mapped, times, literal_at, bytes_at}
+use Rattle.kn_follow.specs.Reading.{Read, ◌>>=◌, both, map_reading, times, literal_at, bytes_at}
 
 -- Results.
 
@@ -179,7 +179,7 @@ pub record Stands {A B : Type 0} (F : A → Type 0) (s : A → List ℕ) (G : B 
   pub each : (b : B) → G b → (a : A) × F a × (f a ≡ b)
 
 pub mapped-reader : {A B : Type 0} (F : A → Type 0) (s : A → List ℕ) (r : List ℕ → Read A) (G : B → Type 0) (u : B
-    → List ℕ) (f : A → B) → IsReader F s r → Stands F s G u f → IsReader G u (mapped f r)
+    → List ℕ) (f : A → B) → IsReader F s r → Stands F s G u f → IsReader G u (map_reading f r)
 mapped-reader {A} {B} F s r G u f R stands = record {
   sound = λ text b rest e.
       let a = bind_ok (r text) (λ (a : A × List ℕ). Ok (f a.0, a.1)) (b, rest) e in
@@ -192,7 +192,7 @@ mapped-reader {A} {B} F s r G u f R stands = record {
   whole = λ b rest fits.
       let w = stands.each b fits in
       let spelled : u b ≡ s w.0 = ap u (sym w.2) ∙ (stands.fits w.0 w.1).1 in
-      ap (λ l. mapped f r (l ++ rest)) spelled ∙ rw (R.whole w.0 rest w.1) (ap (λ (y : B). got y rest) w.2);
+      ap (λ l. map_reading f r (l ++ rest)) spelled ∙ rw (R.whole w.0 rest w.1) (ap (λ (y : B). got y rest) w.2);
   fronts = λ text rest e.
       elim (bind_err (r text) (λ (a : A × List ℕ). Ok (f a.0, a.1)) rest e) [
         | inl h ↦
@@ -254,7 +254,7 @@ abbrev as_list : {A : Type 0} → (A × List A) × List ℕ → Read (List A)
 as_list p = Ok (to_list p.0, p.1)
 
 same_times : {A : Type 0} (r : List ℕ → Read A) (n : ℕ) (text : List ℕ)
-    → times r (suc n) text ≡ mapped to_list (both r (λ _. times r n)) text
+    → times r (suc n) text ≡ map_reading to_list (both r (λ _. times r n)) text
 unfolding times
 same_times {A} r n text = by (r text)
   where
@@ -291,7 +291,7 @@ pub times-reader : {A : Type 0} (F : A → Type 0) (s : A → List ℕ) (r : Lis
     → (n : ℕ) → IsReader (AreTimes F n) (flat_map s) (times r n)
 times-reader F s r a fits R zero = no-times F s r
 times-reader {A} F s r a fits R (suc n) =
-    same-reader (AreTimes F (suc n)) (flat_map s) (mapped to_list (both r (λ _. times r n))) (times r (suc n))
+    same-reader (AreTimes F (suc n)) (flat_map s) (map_reading to_list (both r (λ _. times r n))) (times r (suc n))
     (same_times r n)
     (mapped-reader (λ (p : A × List A). F p.0 × AreTimes F n p.1) (λ (p : A × List A). s p.0 ++ flat_map s p.1)
     (both r (λ _. times r n)) (AreTimes F (suc n)) (flat_map s) to_list

@@ -24,8 +24,8 @@ both first second text = do
   Ok ((a.0, b.0), b.1)
 
 -- what a value stands for
-abbrev pub mapped : {A B : Type 0} → (A → B) → (List ℕ → Read A) → List ℕ → Read B
-mapped f read text = do
+abbrev pub map_reading : {A B : Type 0} → (A → B) → (List ℕ → Read A) → List ℕ → Read B
+map_reading f read text = do
   a ← read text
   Ok (f a.0, a.1)
 
@@ -81,13 +81,14 @@ number_at least most end (b ∷ text) =
 
 unfoldable pub addition_at : List ℕ → Read BatchItem
 addition_at text =
-    mapped (λ p. AddText p.1.1.0)
+    map_reading (λ p. AddText p.1.1.0)
     (both (literal_at (codes "ADD "))
     (λ _. both (number_at 0 NINE_DIGITS 10) (λ n. both (bytes_at n) (λ _. literal_at (10 ∷ [])))))
     text
 
 unfoldable pub removal_at : List ℕ → Read BatchItem
-removal_at text = mapped (λ p. DropId p.1) (both (literal_at (codes "DROP a")) (λ _. number_at 0 NINE_DIGITS 10)) text
+removal_at text = map_reading (λ p. DropId p.1) (both (literal_at (codes "DROP a")) (λ _. number_at 0 NINE_DIGITS 10))
+    text
 
 -- an item, by its first byte: `A` or `D`
 unfoldable pub item_at : List ℕ → Read BatchItem
@@ -97,7 +98,7 @@ item_at (b ∷ text) =
 
 unfoldable pub update_at : List ℕ → Read ReceivedUpdate
 update_at text =
-    mapped (λ p. record { caller = p.1.0; items = p.1.1.1 })
+    map_reading (λ p. record { caller = p.1.0; items = p.1.1.1 })
     (both (literal_at (codes "UPDATE "))
     (λ _. both (number_at 0 NINE_DIGITS 32) (λ _. both (number_at 1 CHANGES 10) (λ n. times item_at n))))
     text
@@ -112,7 +113,7 @@ greatest_place from count = if count == LOG_UPDATES then NINE_DIGITS else from +
 
 unfoldable pub reply_at : List ℕ → Read LogReply
 reply_at text =
-    mapped (λ p. record { from = p.1.0; place = p.1.1.1.0; updates = p.1.1.1.1.0 })
+    map_reading (λ p. record { from = p.1.0; place = p.1.1.1.0; updates = p.1.1.1.1.0 })
     (both (literal_at (codes "LOG "))
     (λ _. both (number_at 0 NINE_DIGITS 32) (λ from. both (number_at 0 (most_updates from) 32)
     (λ count. both (number_at (from + count) (greatest_place from count) 10)

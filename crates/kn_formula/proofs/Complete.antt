@@ -2,7 +2,7 @@
 use Rattle.std.proofs.Common.{◌≡◌, ℕ, zero, suc, ◌+◌, ◌*◌, ◌≤◌, List, [], ◌∷◌, ◌++◌, length, codes, Some, None, refl}
 use Rattle.std.proofs.Common.{arith, length-append}
 use Rattle.kn_fields.specs.Words.{Word, itself}
-use Rattle.kn_fields.specs.Reading.{taken, marked, named}
+use Rattle.kn_fields.specs.Reading.{taken, read_mark, named}
 use Rattle.kn_fields.specs.Words.Word.{sign as sign_word}
 use Rattle.kn_fields.proofs.Levels.{IsComplete, level_complete, closed_complete}
 use Rattle.kn_formula.specs.Trees.{need_of}
@@ -47,10 +47,10 @@ abbrev StopsOne : List Word → Type 0
 StopsOne rest = Unit {0}
 
 abbrev StopsBoth : List Word → Type 0
-StopsBoth rest = marked (codes "&&") rest ≡ None
+StopsBoth rest = read_mark (codes "&&") rest ≡ None
 
 abbrev pub StopsForm : List Word → Type 0
-StopsForm rest = StopsBoth rest × (marked (codes "||") rest ≡ None)
+StopsForm rest = StopsBoth rest × (read_mark (codes "||") rest ≡ None)
 
 pub nil_stops : StopsForm []
 unfolding taken
@@ -68,14 +68,14 @@ comma_stops : (words : List Word) → StopsForm (sign_word (codes ",") ∷ words
 unfolding taken itself
 comma_stops words = (refl, refl)
 
-close_last : (words : List Word) → marked (codes ",") (sign_word (codes ")") ∷ words) ≡ None
+close_last : (words : List Word) → read_mark (codes ",") (sign_word (codes ")") ∷ words) ≡ None
 unfolding taken itself
 close_last words = refl
 
 abbrev IsListComplete : ℕ → Type 0
 IsListComplete n =
     (need : ℕ) (fs : Forms) (rest : List Word) → 3 * length (forms_words fs) + 1 ≤ n → StopsForm rest
-    → marked (codes ",") rest ≡ None
+    → read_mark (codes ",") rest ≡ None
     → parts_at n (AtLeast need) (forms_words fs ++ rest) ≡ Some (list_tree need fs, rest)
 
 one_complete : (n : ℕ) → IsComplete 3 n 0 form_words form_tree StopsForm (parts_at n Any) → IsListComplete n

@@ -10,7 +10,7 @@ use Rattle.kn_trees.specs.declared.formula.Formula.{Formula}
 use Rattle.kn_formula.specs.Trees.{has_bad_threshold, has_bad_name, formula_of}
 use Rattle.kn_formula.specs.Grammar.{form_words, form_tree, Spells}
 use Rattle.kn_formula.specs.Reading.{parts_at, read_words}
-use Rattle.kn_formula.specs.Licensing.{AreLicensees, HasNoForm, Shows, judged, judged_read, licensees_of, Gives}
+use Rattle.kn_formula.specs.Licensing.{AreLicensees, HasNoForm, Shows, check_formula, judged_read, licensees_of, Gives}
 use Rattle.kn_formula.specs.declared.fault.FormulaFault.{FormulaFault}
 use Rattle.kn_formula.specs.declared.fault.FormulaFault.TheVariants.{Syntax, Threshold, Name, NoMemory}
 use Rattle.kn_formula.specs.declared.written.Rule.TheVariants.{Any}
@@ -50,7 +50,7 @@ nothing_spelled written s = let none : length (form_words s.form) ≡ 0 = ap len
 
 -- what is found of tokens, by what is spelled
 of_spelled : (constants : List Constant) (tokens : List TokenView) (w : Written) → Spells tokens w
-    → licensees_of constants tokens ≡ judged constants w
+    → licensees_of constants tokens ≡ check_formula constants w
 unfolding licensees_of
 of_spelled constants [] w s = absurd (nothing_spelled w s)
 of_spelled constants (token ∷ tokens) w s = ap (judged_read constants) (spelled_read (token ∷ tokens) w s)

@@ -3,7 +3,7 @@ use Rattle.std.proofs.Common.{◌≡◌, ℕ, zero, suc, List, [], ◌∷◌, co
 use Rattle.kn_fields.specs.Words.{Word, Mark}
 use Rattle.kn_fields.specs.Words.Word.{literal as literal_word, name as name_word, number as number_word}
 use Rattle.kn_fields.specs.Words.Word.{sign as sign_word, other as other_word}
-use Rattle.kn_fields.specs.Reading.{Reader, then_read, closed_by, marked, named}
+use Rattle.kn_fields.specs.Reading.{Reader, then_read, closed_by, read_mark, named}
 use Rattle.kn_fields.proofs.Words.{read_parts, marked_before, named_before}
 use Rattle.kn_fields.proofs.Steps.{behind}
 use Rattle.kn_fields.proofs.Levels.{Spelled, IsSound, none_sound, level_sound, closed_sound}
@@ -22,9 +22,9 @@ use Rattle.kn_formula.proofs.Lists.{both_tree, form_level, both_level, forms_lev
 of_before : (words left : List Word) (mark : Mark) → of_front words ≡ Some (mark, left)
     → words ≡ sign_word (codes "-") ∷ name_word (codes "of") ∷ sign_word (codes "(") ∷ left
 of_before words left mark e =
-    let first = behind (marked (codes "-") words)
-    (λ mark words. then_read (named (codes "of") words) (λ mark words. marked (codes "(") words)) mark left e in
-    let second = behind (named (codes "of") first.middle) (λ mark words. marked (codes "(") words) mark left
+    let first = behind (read_mark (codes "-") words)
+    (λ mark words. then_read (named (codes "of") words) (λ mark words. read_mark (codes "(") words)) mark left e in
+    let second = behind (named (codes "of") first.middle) (λ mark words. read_mark (codes "(") words) mark left
     first.then_is in
     rw (
       marked_before (codes "-") words first.middle first.first first.is,
@@ -70,7 +70,7 @@ one_sound list form forms (number_word digits ∷ words) x rest e =
       means = b.means;
     }
 one_sound list form forms (sign_word text ∷ words) x rest e =
-    let a = behind (marked (codes "(") (sign_word text ∷ words))
+    let a = behind (read_mark (codes "(") (sign_word text ∷ words))
     (λ mark words. then_read (list Any words) (closed_by (codes ")"))) x rest e in
     let b = closed_sound (codes ")") form_words form_tree (list Any) form a.middle x rest a.then_is in
     record {

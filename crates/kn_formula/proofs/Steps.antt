@@ -5,10 +5,10 @@ use Rattle.kn_lex.specs.declared.token.Sort.{Sort}
 use Rattle.kn_lex.specs.declared.token.Sort.TheVariants.{Label, Body, Name as SortName, Number, Text, Sign}
 use Rattle.kn_fields.specs.Words.{Word, Mark, with_rest, word_by, itself}
 use Rattle.kn_fields.specs.Reading.{Read, Reader, map_read, then_read, closed_by, tail_at, list_at, one_part, whole}
-use Rattle.kn_fields.specs.Reading.{taken, marked}
+use Rattle.kn_fields.specs.Reading.{taken, read_mark}
 use Rattle.kn_fields.proofs.Steps.{Going, going_on, tail_step, tail_none, list_none, less_one}
 use Rattle.kn_formula.specs.Trees.{joined, need_of}
-use Rattle.kn_formula.specs.Reading.{rule_text, finished, parts_of, of_front, one_front, parts_at, more_parts_at}
+use Rattle.kn_formula.specs.Reading.{rule_text, finish_list, parts_of, of_front, one_front, parts_at, more_parts_at}
 use Rattle.kn_formula.specs.Reading.{item_at, one_at, read_words}
 use Rattle.kn_formula.specs.declared.written.Rule.{Rule}
 use Rattle.kn_formula.specs.declared.written.Rule.TheVariants.{All, Any, AtLeast}
@@ -18,14 +18,14 @@ use Rattle.kn_formula.specs.declared.written.Written.TheVariants.{Several}
 -- what is read behind a first part
 abbrev pub parts_behind : ℕ → Rule → Written → Reader Written
 parts_behind n rule first words =
-    map_read (λ parts. finished rule (first ∷ parts))
-    (tail_at (marked (rule_text rule)) one_part (item_at (n - 1) rule) n words)
+    map_read (λ parts. finish_list rule (first ∷ parts))
+    (tail_at (read_mark (rule_text rule)) one_part (item_at (n - 1) rule) n words)
 
 parts_step : (budget : ℕ) (rule : Rule) (words : List Word)
     → parts_at budget rule words ≡ parts_of rule (item_at (budget - 1) rule) budget words
 unfolding parts_at
 parts_step zero rule words =
-    sym (list_none (marked (rule_text rule)) one_part (λ part parts. finished rule (part ∷ parts))
+    sym (list_none (read_mark (rule_text rule)) one_part (λ part parts. finish_list rule (part ∷ parts))
     (item_at (0 - 1) rule) words)
 parts_step (suc n) All words = ap (λ m. parts_of All (one_at m) (suc n) words) (less_one n)
 parts_step (suc n) Any words = ap (λ m. parts_of Any (parts_at m All) (suc n) words) (less_one n)
@@ -38,36 +38,37 @@ unfolding list_at
 parts_read budget rule words first read = rw (parts_step budget rule words, read) refl
 
 pub parts_more : (budget : ℕ) (rule : Rule) (first : Written) (words further : List Word) → (budget ≡ 0 → ⊥)
-    → marked (rule_text rule) words ≡ Some (tt, further)
+    → read_mark (rule_text rule) words ≡ Some (tt, further)
     → parts_behind budget rule first words ≡ more_parts_at (budget - 1) rule first further
 parts_more budget rule first words further some there =
     rw (
-      tail_step (marked (rule_text rule)) one_part (item_at (budget - 1) rule) budget words (omega (arith, some)),
+      tail_step (read_mark (rule_text rule)) one_part (item_at (budget - 1) rule) budget words (omega (arith, some)),
       there,
     ) refl
 
 pub parts_alone : (budget : ℕ) (rule : Rule) (first whole : Written) (words rest : List Word) → (budget ≡ 0 → ⊥)
-    → marked (rule_text rule) words ≡ None → rest ≡ words → whole ≡ finished rule (first ∷ [])
+    → read_mark (rule_text rule) words ≡ None → rest ≡ words → whole ≡ finish_list rule (first ∷ [])
     → parts_behind budget rule first words ≡ Some (whole, rest)
 parts_alone budget rule first whole words rest some none same is =
-    rw (same, is) (tail_none (marked (rule_text rule)) one_part (item_at (budget - 1) rule)
-    (λ parts. finished rule (first ∷ parts)) budget words (omega (arith, some)) none)
+    rw (same, is) (tail_none (read_mark (rule_text rule)) one_part (item_at (budget - 1) rule)
+    (λ parts. finish_list rule (first ∷ parts)) budget words (omega (arith, some)) none)
 
 -- a list under a rule of which so much is read
 abbrev pub Parts : Rule → ℕ → ℕ → List Written → List Word → Read Written → Type 0
 Parts rule budget left list words all =
-    Going (marked (rule_text rule)) one_part (item_at budget rule) (finished rule) left tt list words all
+    Going (read_mark (rule_text rule)) one_part (item_at budget rule) (finish_list rule) left tt list words all
 
 pub parts_start : (budget : ℕ) (rule : Rule) (first : Written) (empty list : List Written) (words : List Word)
     → empty ≡ [] → list ≡ empty ++ first ∷ []
     → Parts rule budget budget list words (more_parts_at budget rule first words)
 parts_start budget rule first empty list words none is =
-    going_on (marked (rule_text rule)) one_part (item_at budget rule) (finished rule) budget tt (first ∷ []) list words
+    going_on (read_mark (rule_text rule)) one_part (item_at budget rule) (finish_list rule) budget tt (first ∷ []) list
+    words
     (is ∙ ap (λ (list : List Written). list ++ first ∷ []) none)
 
 -- a part behind others
 pub whole_several : (rule : Rule) (list : List Written) (last : Written) → (list ≡ [] → ⊥)
-    → Several rule (list ++ last ∷ []) ≡ finished rule (list ++ last ∷ [])
+    → Several rule (list ++ last ∷ []) ≡ finish_list rule (list ++ last ∷ [])
 unfolding joined
 whole_several All [] last some = absurd (some refl)
 whole_several Any [] last some = absurd (some refl)

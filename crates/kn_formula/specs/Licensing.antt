@@ -52,15 +52,16 @@ Shows constants tokens Threshold = HasBadThreshold tokens
 Shows constants tokens Name = HasBadName constants tokens
 Shows constants tokens NoMemory = ⊥
 
-abbrev pub named : List Constant → Written → Result (Option Formula) FormulaFault
-named constants written = if has_bad_name constants written then Err Name else Ok (Some (formula_of constants written))
+abbrev pub check_names : List Constant → Written → Result (Option Formula) FormulaFault
+check_names constants written =
+    if has_bad_name constants written then Err Name else Ok (Some (formula_of constants written))
 
-abbrev pub judged : List Constant → Written → Result (Option Formula) FormulaFault
-judged constants written = if has_bad_threshold written then Err Threshold else named constants written
+abbrev pub check_formula : List Constant → Written → Result (Option Formula) FormulaFault
+check_formula constants written = if has_bad_threshold written then Err Threshold else check_names constants written
 
 abbrev pub judged_read : List Constant → Option Written → Result (Option Formula) FormulaFault
 judged_read constants None = Err Syntax
-judged_read constants (Some written) = judged constants written
+judged_read constants (Some written) = check_formula constants written
 
 -- the formula of these tokens, or its first fault
 unfoldable pub licensees_of : List Constant → List TokenView → Result (Option Formula) FormulaFault

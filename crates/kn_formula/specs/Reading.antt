@@ -4,7 +4,7 @@ use Rattle.std.specs.Prelude.{ℕ, zero, suc, ◌*◌, List, [], ◌∷◌, leng
 use Rattle.kn_fields.specs.Words.{Word, Mark}
 use Rattle.kn_fields.specs.Words.Word.{literal, name, number, sign, other}
 use Rattle.kn_fields.specs.Reading.{Read, Reader, map_read, then_read, closed_by, more_at, tail_at, list_at, one_part}
-use Rattle.kn_fields.specs.Reading.{whole, marked, named}
+use Rattle.kn_fields.specs.Reading.{whole, read_mark, named}
 use Rattle.kn_formula.specs.Trees.{joined, need_of}
 use Rattle.kn_formula.specs.declared.written.Principal.TheVariants.{Literal, Name}
 use Rattle.kn_formula.specs.declared.written.Rule.{Rule}
@@ -19,20 +19,20 @@ rule_text Any = codes "||"
 rule_text (AtLeast need) = codes ","
 
 -- the parts of a list under a rule: one part alone is itself, but in a threshold
-abbrev pub finished : Rule → List Written → Written
-finished (AtLeast need) parts = Several (AtLeast need) parts
-finished rule parts = joined rule parts
+abbrev pub finish_list : Rule → List Written → Written
+finish_list (AtLeast need) parts = Several (AtLeast need) parts
+finish_list rule parts = joined rule parts
 
 -- a list under a rule of these items
 abbrev pub parts_of : Rule → Reader Written → ℕ → Reader Written
 parts_of rule item n words =
-    list_at (marked (rule_text rule)) one_part (λ part parts. finished rule (part ∷ parts)) item n words
+    list_at (read_mark (rule_text rule)) one_part (λ part parts. finish_list rule (part ∷ parts)) item n words
 
 -- `-`, `of` and `(`
 abbrev pub of_front : Reader Mark
 of_front words =
-    then_read (marked (codes "-") words)
-    (λ mark words. then_read (named (codes "of") words) (λ mark words. marked (codes "(") words))
+    then_read (read_mark (codes "-") words)
+    (λ mark words. then_read (named (codes "of") words) (λ mark words. read_mark (codes "(") words))
 
 abbrev pub one_front : List Word → (Rule → Reader Written) → Read Written
 one_front [] list = None
@@ -41,7 +41,7 @@ one_front (name text ∷ words) list = Some (Who (Name text), words)
 one_front (number digits ∷ words) list =
     then_read (of_front words) (λ mark words. then_read (list (AtLeast (need_of digits)) words) (closed_by (codes ")")))
 one_front (sign text ∷ words) list =
-    then_read (marked (codes "(") (sign text ∷ words))
+    then_read (read_mark (codes "(") (sign text ∷ words))
     (λ mark words. then_read (list Any words) (closed_by (codes ")")))
 one_front (other ∷ words) list = None
 
@@ -64,8 +64,8 @@ item_at n (AtLeast need) = parts_at n Any
 -- a list under a rule with a first part that is read, and a sign behind it
 abbrev pub more_parts_at : ℕ → Rule → Written → Reader Written
 more_parts_at n rule first words =
-    map_read (λ parts. finished rule (first ∷ parts))
-    (more_at one_part (item_at n rule) (tail_at (marked (rule_text rule)) one_part (item_at n rule) n) tt words)
+    map_read (λ parts. finish_list rule (first ∷ parts))
+    (more_at one_part (item_at n rule) (tail_at (read_mark (rule_text rule)) one_part (item_at n rule) n) tt words)
 
 -- the formula of all these words
 unfoldable pub read_words : List Word → Option Written

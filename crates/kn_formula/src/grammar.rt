@@ -5,7 +5,7 @@
 ghost use Rattle.std.specs.Prelude.{◌≡◌, [], ◌∷◌, IfOk, codes};
 ghost use Rattle.std.specs.Str.{bytes_eq};
 ghost use Rattle.kn_fields.specs.Reading.{Reads, ReadsWhole, then_read, closed_by};
-ghost use Rattle.kn_formula.specs.Reading.{rule_text, finished, of_front};
+ghost use Rattle.kn_formula.specs.Reading.{rule_text, finish_list, of_front};
 ghost use Rattle.kn_formula.specs.Reading.{parts_at, more_parts_at, item_at, one_at, read_words};
 
 use crate::threshold::need_of;
@@ -31,7 +31,7 @@ fn rule_text(rule: Rule) -> &'static [u8]
 #[inline(always)]
 #[tactic(auto, unfolding(crate::specs::Trees::joined))]
 fn alone(alloc: Global, rule: Rule, part: Written) -> Result<Written, NoMemory>
-    ensures { IfOk result (λ whole. whole ≡ finished rule (part ∷ [])) }
+    ensures { IfOk result (λ whole. whole ≡ finish_list rule (part ∷ [])) }
 {
     match rule {
         Rule::All | Rule::Any => Ok(part),

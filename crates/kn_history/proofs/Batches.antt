@@ -16,7 +16,7 @@ use Rattle.kn_history.specs.declared.update.Numbered.{Numbered}
 use Rattle.kn_history.specs.declared.fault.StoreFault.{StoreFault}
 use Rattle.kn_history.specs.History.{additions, added_count, refusal_of, is_well_numbered, may_follow, all_may_follow}
 use Rattle.kn_history.specs.History.{update_may_follow}
-use Rattle.kn_history.specs.Batches.{numbered, all_numbered, numbered_from, item_in, items_in, refusal_of_item}
+use Rattle.kn_history.specs.Batches.{number_item, all_numbered, numbered_from, item_in, items_in, refusal_of_item}
 use Rattle.kn_history.specs.Batches.{found_at, refused_from, refusal_of_items, batch_by, item_reads, items_may_follow}
 use Rattle.kn_history.specs.Batches.{IsRefusedItem}
 
@@ -34,11 +34,12 @@ record IsRefusedFrom (from : ℕ) (past : List Numbered) (items : List Item) (nu
 
 -- behind one more change
 shift : (past : List Numbered) (item : Item) (front : List Item) (one : Item)
-    → refusal_of_item ((past ++ numbered past item ∷ []) ++ all_numbered (past ++ numbered past item ∷ []) front) one
+    → refusal_of_item ((past ++ number_item past item ∷ []) ++ all_numbered (past ++ number_item past item ∷ []) front)
+    one
     ≡ refusal_of_item (past ++ all_numbered past (item ∷ front)) one
 shift past item front one =
     ap (λ l. refusal_of_item l one)
-    (append_assoc past (numbered past item ∷ []) (all_numbered (past ++ numbered past item ∷ []) front))
+    (append_assoc past (number_item past item ∷ []) (all_numbered (past ++ number_item past item ∷ []) front))
 
 at_first : (past : List Numbered) (item : Item) → refusal_of_item (past ++ []) item ≡ refusal_of_item past item
 at_first past item = ap (λ l. refusal_of_item l item) (append-nil past)
@@ -58,7 +59,7 @@ tail_same x y xs ys e = cc
 
 before-more : (past : List Numbered) (item : Item) (front : List Item) → refusal_of_item past item ≡ None
     → ((first : List Item) (one : Item) (others : List Item) → front ≡ first ++ one ∷ others
-    → refusal_of_item ((past ++ numbered past item ∷ []) ++ all_numbered (past ++ numbered past item ∷ []) first)
+    → refusal_of_item ((past ++ number_item past item ∷ []) ++ all_numbered (past ++ number_item past item ∷ []) first)
     one ≡ None)
     → (first : List Item) (one : Item) (others : List Item) → item ∷ front ≡ first ++ one ∷ others
     → refusal_of_item (past ++ all_numbered past first) one ≡ None
@@ -73,12 +74,13 @@ refused-is : (from : ℕ) (past : List Numbered) (items : List Item) (number : �
     → refused_from from past items ≡ Some (number, fault) → IsRefusedFrom from past items number fault
 refused-is from past [] number fault e = absurd (nothing_found (number, fault) e)
 refused-is from past (item ∷ items) number fault e =
-    by (refusal_of_item past item) refl e (refused-is (from + 1) (past ++ numbered past item ∷ []) items number fault)
+    by (refusal_of_item past item) refl e
+    (refused-is (from + 1) (past ++ number_item past item ∷ []) items number fault)
   where
     by : (o : Option StoreFault) → refusal_of_item past item ≡ o
-        → found_at from o (refused_from (from + 1) (past ++ numbered past item ∷ []) items) ≡ Some (number, fault)
-        → (refused_from (from + 1) (past ++ numbered past item ∷ []) items ≡ Some (number, fault)
-        → IsRefusedFrom (from + 1) (past ++ numbered past item ∷ []) items number fault)
+        → found_at from o (refused_from (from + 1) (past ++ number_item past item ∷ []) items) ≡ Some (number, fault)
+        → (refused_from (from + 1) (past ++ number_item past item ∷ []) items ≡ Some (number, fault)
+        → IsRefusedFrom (from + 1) (past ++ number_item past item ∷ []) items number fault)
         → IsRefusedFrom from past (item ∷ items) number fault
     by (Some found) is e deep =
         let same : (from, found) ≡ (number, fault) = same_Some (from, found) (number, fault) e in
@@ -113,13 +115,14 @@ is-refused : (from : ℕ) (past : List Numbered) (front : List Item) (item : Ite
     → refused_from from past (front ++ item ∷ rest) ≡ Some (number, fault)
 is-refused from past [] item rest number fault place before refused =
     let same : from ≡ number = omega (arith, place) in
-    ap (λ o. found_at from o (refused_from (from + 1) (past ++ numbered past item ∷ []) rest)) (sym (at_first past item)
+    ap (λ o. found_at from o (refused_from (from + 1) (past ++ number_item past item ∷ []) rest))
+    (sym (at_first past item)
     ∙ refused)
     ∙ ap (λ (n : ℕ). Some (n, fault)) same
 is-refused from past (x ∷ front) item rest number fault place before refused =
-    ap (λ o. found_at from o (refused_from (from + 1) (past ++ numbered past x ∷ []) (front ++ item ∷ rest)))
+    ap (λ o. found_at from o (refused_from (from + 1) (past ++ number_item past x ∷ []) (front ++ item ∷ rest)))
     (sym (at_first past x) ∙ before [] x front refl)
-    ∙ is-refused (from + 1) (past ++ numbered past x ∷ []) front item rest number fault (omega (arith, place))
+    ∙ is-refused (from + 1) (past ++ number_item past x ∷ []) front item rest number fault (omega (arith, place))
     (λ first one others c. shift past x first one ∙ before (x ∷ first) one others (ap (λ l. x ∷ l) c))
     (shift past x front item ∙ refused)
 
@@ -151,7 +154,7 @@ refused_items past items number fault = (there, back)
 -- What may follow.
 
 item-follows : (past : List Numbered) (item : Item)
-    → may_follow past (numbered past item) ≡ (is_none (refusal_of_item past item) && item_reads item)
+    → may_follow past (number_item past item) ≡ (is_none (refusal_of_item past item) && item_reads item)
 item-follows past (I.Add text) =
     ap (λ t. is_none (refusal_of_item past (I.Add text)) && (t && item_reads (I.Add text)))
     (eq-eqb (additions past + 1) (additions past + 1) refl)
@@ -171,16 +174,16 @@ all-follow : (from : ℕ) (past : List Numbered) (items : List Item)
     ≡ (is_none (refused_from from past items) && list_all item_reads items)
 all-follow from past [] = refl
 all-follow from past (item ∷ items) =
-    ap (λ t. t && all_may_follow (past ++ numbered past item ∷ [])
-    (all_numbered (past ++ numbered past item ∷ []) items)) (item-follows past item)
+    ap (λ t. t && all_may_follow (past ++ number_item past item ∷ [])
+    (all_numbered (past ++ number_item past item ∷ []) items)) (item-follows past item)
     ∙ ap (λ t. (is_none (refusal_of_item past item) && item_reads item) && t)
-    (all-follow (from + 1) (past ++ numbered past item ∷ []) items)
-    ∙ together (refusal_of_item past item) from (refused_from (from + 1) (past ++ numbered past item ∷ []) items)
+    (all-follow (from + 1) (past ++ number_item past item ∷ []) items)
+    ∙ together (refusal_of_item past item) from (refused_from (from + 1) (past ++ number_item past item ∷ []) items)
     (item_reads item) (list_all item_reads items)
 
 pub length-numbered : (past : List Numbered) (items : List Item) → length (all_numbered past items) ≡ length items
 length-numbered past [] = refl
-length-numbered past (item ∷ items) = let rest = length-numbered (past ++ numbered past item ∷ []) items in
+length-numbered past (item ∷ items) = let rest = length-numbered (past ++ number_item past item ∷ []) items in
     omega (arith, rest)
 
 pub ids-go_on : (past : List Numbered) (items : List Item)

@@ -14,7 +14,8 @@ use Rattle.kn_history.specs.declared.update.Change.{Change}
 use Rattle.kn_history.specs.declared.update.Change.TheVariants.{Add, Remove}
 use Rattle.kn_history.specs.declared.update.Update.{Update}
 use Rattle.kn_history.specs.declared.update.Numbered.{Numbered}
-use Rattle.kn_history.specs.History.{NumberedText, all_changes, additions, is_removal_of, kept, live, refusal_of_text}
+use Rattle.kn_history.specs.History.{NumberedText, all_changes, additions, is_removal_of, kept_credential, live}
+use Rattle.kn_history.specs.History.{refusal_of_text}
 use Rattle.kn_history.specs.History.{refusal_of_id}
 use Rattle.kn_history.specs.History.{update_may_follow, updates_may_follow, is_valid_history, addition_by, removal_by}
 
@@ -27,7 +28,7 @@ removal id = record { change = Remove; id = id }
 -- An addition removes nothing.
 
 kept-addition : (change : Change) (at : ℕ) (later : List Numbered) (text : List ℕ) (id : ℕ)
-    → kept change at (later ++ addition text id ∷ []) ≡ kept change at later
+    → kept_credential change at (later ++ addition text id ∷ []) ≡ kept_credential change at later
 unfolding addition
 kept-addition (Add own) at later text id =
     ap (λ t. cond t [] (record { id = at; text = own } ∷ []))
@@ -41,8 +42,8 @@ unfolding addition
 live-addition [] text id = refl
 live-addition (c ∷ past) text id =
     ap (λ first. first ++ live (past ++ addition text id ∷ [])) (kept-addition c.change c.id past text id)
-    ∙ ap (λ rest. kept c.change c.id past ++ rest) (live-addition past text id)
-    ∙ sym (append_assoc (kept c.change c.id past) (live past) (record { id = id; text = text } ∷ []))
+    ∙ ap (λ rest. kept_credential c.change c.id past ++ rest) (live-addition past text id)
+    ∙ sym (append_assoc (kept_credential c.change c.id past) (live past) (record { id = id; text = text } ∷ []))
 
 -- A removal takes the credential of its id away.
 
@@ -50,7 +51,7 @@ stays : ℕ → NumberedText → Bool
 stays id c = not (c.id == id)
 
 kept-removal : (change : Change) (at : ℕ) (later : List Numbered) (id : ℕ)
-    → kept change at (later ++ removal id ∷ []) ≡ filter (stays id) (kept change at later)
+    → kept_credential change at (later ++ removal id ∷ []) ≡ filter (stays id) (kept_credential change at later)
 unfolding removal stays
 kept-removal (Add own) at later id =
     ap (λ t. cond t [] (record { id = at; text = own } ∷ []))
@@ -75,8 +76,8 @@ unfolding removal stays
 live-removal [] id = refl
 live-removal (c ∷ past) id =
     ap (λ first. first ++ live (past ++ removal id ∷ [])) (kept-removal c.change c.id past id)
-    ∙ ap (λ rest. filter (stays id) (kept c.change c.id past) ++ rest) (live-removal past id)
-    ∙ sym (filter-append (stays id) (kept c.change c.id past) (live past))
+    ∙ ap (λ rest. filter (stays id) (kept_credential c.change c.id past) ++ rest) (live-removal past id)
+    ∙ sym (filter-append (stays id) (kept_credential c.change c.id past) (live past))
 
 -- Valid histories.
 

@@ -17,14 +17,14 @@ use Rattle.kn_history.specs.History.{additions, refusal_of_text, refusal_of_id}
 
 -- The change that an item is behind these, with its right id: an addition is numbered by how many there are with it, a
 -- removal has the id that it removes.
-abbrev pub numbered : List Numbered → Item → Numbered
-numbered past (I.Add text) = record { change = Add text; id = additions past + 1 }
-numbered past (I.Remove id) = record { change = Remove; id = id }
+abbrev pub number_item : List Numbered → Item → Numbered
+number_item past (I.Add text) = record { change = Add text; id = additions past + 1 }
+number_item past (I.Remove id) = record { change = Remove; id = id }
 
 -- the changes that items are behind these, each behind those in front of it
 abbrev pub all_numbered : List Numbered → List Item → List Numbered
 all_numbered past [] = []
-all_numbered past (item ∷ items) = numbered past item ∷ all_numbered (past ++ numbered past item ∷ []) items
+all_numbered past (item ∷ items) = number_item past item ∷ all_numbered (past ++ number_item past item ∷ []) items
 
 -- the items of changes
 abbrev pub item_in : Change → ℕ → Item
@@ -49,7 +49,7 @@ found_at number (Some fault) later = Some (number, fault)
 abbrev pub refused_from : ℕ → List Numbered → List Item → Option (ℕ × StoreFault)
 refused_from number past [] = None
 refused_from number past (item ∷ items) =
-    found_at number (refusal_of_item past item) (refused_from (number + 1) (past ++ numbered past item ∷ []) items)
+    found_at number (refusal_of_item past item) (refused_from (number + 1) (past ++ number_item past item ∷ []) items)
 
 -- the first item that is refused, counted from 1
 abbrev pub refusal_of_items : List Numbered → List Item → Option (ℕ × StoreFault)

@@ -46,16 +46,16 @@ is_removal_of id (Add text) other = false
 is_removal_of id Remove other = id == other
 
 -- the credential of a change, where none of the later changes removes it
-abbrev pub kept : Change → ℕ → List Numbered → List NumberedText
-kept (Add text) id later =
+abbrev pub kept_credential : Change → ℕ → List Numbered → List NumberedText
+kept_credential (Add text) id later =
     if list_any (λ c. is_removal_of id c.change c.id) later then []
     else record { id = id; text = text } ∷ []
-kept Remove id later = []
+kept_credential Remove id later = []
 
 -- the additions that no later change removes, in the order of their ids
 abbrev pub live : List Numbered → List NumberedText
 live [] = []
-live (c ∷ later) = kept c.change c.id later ++ live later
+live (c ∷ later) = kept_credential c.change c.id later ++ live later
 
 -- the credentials of a history
 abbrev pub credentials_of : List Update → List NumberedText

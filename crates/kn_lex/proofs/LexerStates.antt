@@ -5,7 +5,8 @@ use Rattle.std.specs.Prelude.{nat_lt}
 use Rattle.std.proofs.lemmas.Bool.Decides.{nat_tests}
 use Rattle.std.proofs.lemmas.List.{length-drop, drop_all, drop-drop, append-nil}
 use Rattle.kn_lex.specs.Spelling.{Spells}
-use Rattle.kn_lex.specs.Cutting.{IsLexeme, Reaches, Cuts, start, spent, place_after, context_after, token_of, tokens_of}
+use Rattle.kn_lex.specs.Cutting.{IsLexeme, Reaches, Cuts, start, lexeme_bytes, place_after, context_after, token_of}
+use Rattle.kn_lex.specs.Cutting.{tokens_of}
 use Rattle.kn_lex.specs.Cutting.{TokenView}
 use Rattle.kn_lex.specs.Faults.{goes_on, IsFaultless, IsFirstLexicalFault}
 use Rattle.kn_lex.specs.Scanning.{lexeme_at, fault_at, stuck_fault, body_len}
@@ -28,7 +29,7 @@ use Rattle.kn_lex.proofs.OneLexing.{IsClean, one_more, through, least_behind, no
 pub record IsReached (text : List ℕ) (place : Place) (at : ℕ) (tokens : List TokenView) : Type 0 where
   pub lexemes : List (Lexeme × ℕ)
   pub reached : Reaches start text lexemes place (drop at text)
-  pub size : spent lexemes ≡ at
+  pub size : lexeme_bytes lexemes ≡ at
   pub clean : IsClean start 0 text lexemes
   pub exact : tokens ≡ tokens_of start 0 text lexemes
 
@@ -110,9 +111,11 @@ finished_cuts text tokens h = record { lexemes = h.lexemes; reached = (h.end, h.
 
 pub finished_faultless : (text : List ℕ) (tokens : List TokenView) → IsFinished text tokens → IsFaultless text
 finished_faultless text tokens h fault o =
-    let on = through h.lexemes start 0 text h.end [] o.lexemes o.place o.left fault (spent o.lexemes) h.reached h.clean
+    let on = through h.lexemes start 0 text h.end [] o.lexemes o.place o.left fault (lexeme_bytes o.lexemes) h.reached
+    h.clean
     o.reached (omega arith) o.shown in
-    none_behind on.0 h.end (0 + spent h.lexemes) o.place o.left fault (spent o.lexemes) h.done on.1 on.2 o.shown
+    none_behind on.0 h.end (0 + lexeme_bytes h.lexemes) o.place o.left fault (lexeme_bytes o.lexemes) h.done on.1 on.2
+    o.shown
 
 -- one list of tokens at most cuts a text
 pub one_list : (text : List ℕ) (tokens other : List TokenView) → Cuts text tokens → Cuts text other → tokens ≡ other

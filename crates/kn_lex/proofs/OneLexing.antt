@@ -1,7 +1,7 @@
 -- Lexemes that reach a place are the only ones, and the first fault after clean ones is the least.
 use Rattle.std.proofs.Common.{◌≡◌, ℕ, Bool, ◌+◌, inl, List, [], ◌∷◌, ◌++◌, Some, None, take, drop, arith, refl, ap}
 use Rattle.std.proofs.Common.{append_assoc}
-use Rattle.kn_lex.specs.Cutting.{IsLexeme, Reaches, spent, place_after, token_of, tokens_of}
+use Rattle.kn_lex.specs.Cutting.{IsLexeme, Reaches, lexeme_bytes, place_after, token_of, tokens_of}
 use Rattle.kn_lex.specs.Faults.{Shows}
 use Rattle.kn_lex.specs.Scanning.{lexeme_at, plain_lexeme, stuck_fault, body_len, zero_place, fault_at}
 use Rattle.kn_lex.specs.declared.lexeme.Lexeme.{Lexeme}
@@ -27,9 +27,10 @@ IsClean place at text (p ∷ ps) =
 pub through : (front : List (Lexeme × ℕ)) (place : Place) (at : ℕ) (text : List ℕ) (end : Place) (left : List ℕ)
     (other_front : List (Lexeme × ℕ)) (other_end : Place) (other_left : List ℕ) (other : LexFault) (b : ℕ)
     → Reaches place text front end left → IsClean place at text front
-    → Reaches place text other_front other_end other_left → b ≡ at + spent other_front
+    → Reaches place text other_front other_end other_left → b ≡ at + lexeme_bytes other_front
     → Shows other_end b other_left other
-    → (rest : List (Lexeme × ℕ)) × Reaches end left rest other_end other_left × (b ≡ at + spent front + spent rest)
+    → (rest : List (Lexeme × ℕ)) × Reaches end left rest other_end other_left
+    × (b ≡ at + lexeme_bytes front + lexeme_bytes rest)
 through [] place at text end left other_front other_end other_left other b h c k t o =
     (other_front, rw (← h.0, ← h.1) k, omega (arith, t))
 through (p ∷ ps) place at text end left [] other_end other_left other b h c k t o = grind (arith, shown_least)
@@ -44,7 +45,7 @@ through (p ∷ ps) place at text end left (q ∷ qs) other_end other_left other 
 -- every other fault behind a place stands behind the one that the place shows
 pub least_behind : (rest : List (Lexeme × ℕ)) (place : Place) (at : ℕ) (left : List ℕ) (fault : LexFault)
     (other_end : Place) (other_left : List ℕ) (other : LexFault) (b : ℕ) → fault_at place at left ≡ Some fault
-    → Reaches place left rest other_end other_left → b ≡ at + spent rest → Shows other_end b other_left other
+    → Reaches place left rest other_end other_left → b ≡ at + lexeme_bytes rest → Shows other_end b other_left other
     → Least other (Some fault)
 least_behind [] place at left fault other_end other_left other b e k t o = grind (arith, shown_least)
 least_behind (q ∷ qs) place at left fault other_end other_left other b e k t o =
@@ -68,7 +69,7 @@ nothing context q none cut = absurd (cc (end_lexeme context none, lexeme_is cont
 -- nothing behind the end shows a fault
 pub none_behind : (rest : List (Lexeme × ℕ)) (end : Place) (at : ℕ) (other_end : Place) (other_left : List ℕ)
     (other : LexFault) (b : ℕ)
-    → (end.context ≡ CommentBody → ⊥) → Reaches end [] rest other_end other_left → b ≡ at + spent rest
+    → (end.context ≡ CommentBody → ⊥) → Reaches end [] rest other_end other_left → b ≡ at + lexeme_bytes rest
     → Shows other_end b other_left other → ⊥
 none_behind [] end at other_end other_left other b none k t o = grind arith
 none_behind (q ∷ qs) end at other_end other_left other b none k t o = nothing end.context q none k.0
@@ -76,12 +77,12 @@ none_behind (q ∷ qs) end at other_end other_left other b none k t o = nothing 
 -- one more lexeme
 pub one_more : (front : List (Lexeme × ℕ)) (place : Place) (at : ℕ) (text : List ℕ) (end : Place) (left : List ℕ)
     (p : Lexeme × ℕ) (a : ℕ)
-    → Reaches place text front end left → IsClean place at text front → a ≡ at + spent front
+    → Reaches place text front end left → IsClean place at text front → a ≡ at + lexeme_bytes front
     → IsLexeme end.context left p.0 p.1
     → fault_at end a left ≡ None
     → Reaches place text (front ++ p ∷ []) (place_after end p.0 (take p.1 left)) (drop p.1 left)
     × IsClean place at text (front ++ p ∷ [])
-    × (spent (front ++ p ∷ []) ≡ spent front + p.1)
+    × (lexeme_bytes (front ++ p ∷ []) ≡ lexeme_bytes front + p.1)
     × (tokens_of place at text (front ++ p ∷ []) ≡ tokens_of place at text front
     ++ token_of end.context a p.0 (take p.1 left))
 one_more [] place at text end left p a h c s cut e = grind arith

@@ -60,9 +60,9 @@ Reaches place text (p ∷ ps) end left =
     × Reaches (place_after place p.0 (take p.1 text)) (drop p.1 text) ps end left
 
 -- the bytes that the lexemes have
-abbrev pub spent : List (Lexeme × ℕ) → ℕ
-spent [] = 0
-spent (p ∷ ps) = p.1 + spent ps
+abbrev pub lexeme_bytes : List (Lexeme × ℕ) → ℕ
+lexeme_bytes [] = 0
+lexeme_bytes (p ∷ ps) = p.1 + lexeme_bytes ps
 
 -- a token without where it lies in memory
 pub record TokenView : Type 0 where

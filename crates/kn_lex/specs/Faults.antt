@@ -5,7 +5,7 @@ use Rattle.kn_base.specs.declared.limits.TheConstants.{WHOLE_NUMBER}
 use Rattle.kn_base.specs.Decimal.{is_digit, digits_value}
 use Rattle.kn_lex.specs.Bytes.{is_white}
 use Rattle.kn_lex.specs.Spelling.{is_blank}
-use Rattle.kn_lex.specs.Cutting.{start, IsLexeme, BeginsNone, Reaches, spent}
+use Rattle.kn_lex.specs.Cutting.{start, IsLexeme, BeginsNone, Reaches, lexeme_bytes}
 use Rattle.kn_lex.specs.declared.token.Sort.TheVariants.{Number as NumberSort}
 use Rattle.kn_lex.specs.declared.lexeme.Lexeme.{Lexeme}
 use Rattle.kn_lex.specs.declared.lexeme.Lexeme.TheVariants.{Token}
@@ -98,7 +98,7 @@ pub record HasFault (text : List ℕ) (fault : LexFault) : Type 0 where
   pub place : Place
   pub left : List ℕ
   pub reached : Reaches start text lexemes place left
-  pub shown : Shows place (spent lexemes) left fault
+  pub shown : Shows place (lexeme_bytes lexemes) left fault
 
 abbrev pub IsFaultless : List ℕ → Type 0
 IsFaultless text = (fault : LexFault) → HasFault text fault → ⊥

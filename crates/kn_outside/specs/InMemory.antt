@@ -6,7 +6,7 @@ use Rattle.std.specs.Str.{bytes_eq}
 use Rattle.kn_base.specs.declared.limits.TheConstants.{FILE_BYTES}
 use Rattle.kn_outside.specs.declared.file_entry.FileEntry.{FileEntry}
 use Rattle.kn_outside.specs.declared.files.FileFault.{FileFault}
-use Rattle.kn_outside.specs.Faults.{raised}
+use Rattle.kn_outside.specs.Faults.{count_up}
 use Rattle.kn_outside.specs.declared.files.FileFault.TheVariants.{Failed, TooLarge, NoMemory}
 
 -- a sink in memory: what was written, how many writes there were and how many failed, and which ones fail
@@ -43,11 +43,11 @@ is_failing failing number = list_any (λ other. other == number) failing
 
 -- the sink once this piece was written to it
 abbrev pub sink_after_write : List ℕ → SinkInMemory → SinkInMemory
-sink_after_write piece sink = record sink { written = sink.written ++ piece; calls = raised sink.calls }
+sink_after_write piece sink = record sink { written = sink.written ++ piece; calls = count_up sink.calls }
 
 -- the sink once a write to it failed
 abbrev pub sink_after_failed_write : SinkInMemory → SinkInMemory
-sink_after_failed_write sink = record sink { calls = raised sink.calls; faults = raised sink.faults }
+sink_after_failed_write sink = record sink { calls = count_up sink.calls; faults = count_up sink.faults }
 
 -- a link with this input, of which nothing was read and to which nothing was written, whose reads are cut so and
 -- of which these calls fail
@@ -65,25 +65,25 @@ new_link input cuts failing = record {
 
 -- the link once this piece was written to it
 abbrev pub link_after_write : List ℕ → LinkInMemory → LinkInMemory
-link_after_write piece link = record link { written = link.written ++ piece; calls = raised link.calls }
+link_after_write piece link = record link { written = link.written ++ piece; calls = count_up link.calls }
 
 -- the link once a write to it failed
 abbrev pub link_after_failed_write : LinkInMemory → LinkInMemory
-link_after_failed_write link = record link { calls = raised link.calls; faults = raised link.faults }
+link_after_failed_write link = record link { calls = count_up link.calls; faults = count_up link.faults }
 
 -- the link once so many bytes of its input were read
 abbrev pub link_after_read : ℕ → LinkInMemory → LinkInMemory
 link_after_read n link = record link {
   taken = link.taken ++ take n link.left;
   left = drop n link.left;
-  reads = raised link.reads;
-  calls = raised link.calls;
+  reads = count_up link.reads;
+  calls = count_up link.calls;
 }
 
 -- the link once a read of it failed
 abbrev pub link_after_failed_read : LinkInMemory → LinkInMemory
 link_after_failed_read link =
-    record link { reads = raised link.reads; calls = raised link.calls; faults = raised link.faults }
+    record link { reads = count_up link.reads; calls = count_up link.calls; faults = count_up link.faults }
 
 -- how many of so many bytes the read at this place gives: at most its cut, where a cut of 0 counts as 1,
 -- and all of them once the cuts have ended
@@ -103,7 +103,7 @@ answer_of (Some content) = if nat_le (length content) FILE_BYTES then Ok content
 -- the answer that the next read of this name is due
 abbrev pub next_answer : FilesInMemory → List ℕ → Result (List ℕ) FileFault
 next_answer files name =
-    if is_failing files.failing (raised files.calls) then Err Failed else answer_of (content_of files.entries name)
+    if is_failing files.failing (count_up files.calls) then Err Failed else answer_of (content_of files.entries name)
 
 -- an answer is the one that is due, or memory ran out
 abbrev pub IsAnswer : Result (List ℕ) FileFault → Result (List ℕ) FileFault → Type 0
@@ -114,11 +114,11 @@ IsAnswer due (Err NoMemory) = Unit {0}
 
 -- the files once this name was asked for
 abbrev pub asked_for : List ℕ → FilesInMemory → FilesInMemory
-asked_for name files = record files { asked = files.asked ++ name ∷ []; calls = raised files.calls }
+asked_for name files = record files { asked = files.asked ++ name ∷ []; calls = count_up files.calls }
 
 -- the files after a read of this name gave this answer
 abbrev pub files_after : Result (List ℕ) FileFault → List ℕ → FilesInMemory → FilesInMemory
 files_after (Ok content) name files = asked_for name files
-files_after (Err Failed) name files = record (asked_for name files) { faults = raised files.faults }
+files_after (Err Failed) name files = record (asked_for name files) { faults = count_up files.faults }
 files_after (Err TooLarge) name files = asked_for name files
 files_after (Err NoMemory) name files = files

@@ -1,7 +1,7 @@
 //! A connection in memory.
 ghost use Rattle.std.specs.Prelude.{◌≡◌, ◌+◌, ◌-◌, ◌^◌, ◌<◌, ◌≤◌, [], ◌++◌, true, false, min, length, take, drop};
 ghost use Rattle.std.specs.Prelude.{IfOk, OnOk, OnErr, IsErr, IsTrue, ◌↔◌};
-ghost use Rattle.kn_outside.specs.Faults.{raised};
+ghost use Rattle.kn_outside.specs.Faults.{count_up};
 ghost use Rattle.kn_outside.specs.InMemory.{is_failing, cut_of, new_link};
 ghost use Rattle.kn_outside.specs.InMemory.{link_after_write, link_after_failed_write};
 ghost use Rattle.kn_outside.specs.InMemory.{link_after_read, link_after_failed_read};
@@ -99,7 +99,7 @@ impl Sink for MemLink {
         ensures ok { OnOk result (self.new ≡ link_after_write piece.now self.old) }
         ensures err { OnErr result (self.new ≡ link_after_failed_write self.old) }
         ensures later { self.old.faults ≤ self.new.faults }
-        ensures chosen { IsTrue (is_failing self.old.failing (raised self.old.calls)) → IsErr result }
+        ensures chosen { IsTrue (is_failing self.old.failing (count_up self.old.calls)) → IsErr result }
     {
         self.calls = self.calls.saturating_add(1);
         if !fails(&self.failing, self.calls) && self.written.extend(piece).is_ok() {
@@ -123,7 +123,7 @@ impl Link for MemLink {
         ensures err { OnErr result (self.new ≡ link_after_failed_read self.old) }
         ensures buffer { OnErr result (buf.new ≡ buf.old) }
         ensures later { self.old.faults ≤ self.new.faults }
-        ensures chosen { IsErr result ↔ IsTrue (is_failing self.old.failing (raised self.old.calls)) }
+        ensures chosen { IsErr result ↔ IsTrue (is_failing self.old.failing (count_up self.old.calls)) }
     {
         let place = self.reads;
         self.calls = self.calls.saturating_add(1);

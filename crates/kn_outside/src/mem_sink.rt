@@ -2,7 +2,7 @@
 ghost use Rattle.std.specs.Prelude.{◌≡◌, ◌+◌, ◌-◌, ◌^◌, ◌<◌, ◌≤◌, [], ◌++◌, true, false, min, length};
 ghost use Rattle.std.specs.Prelude.{IfOk, OnOk, OnErr, IsErr, IsTrue, ◌↔◌};
 ghost use Rattle.kn_outside.specs.InMemory.{is_failing, sink_after_write, sink_after_failed_write};
-ghost use Rattle.kn_outside.specs.Faults.{raised, Rose};
+ghost use Rattle.kn_outside.specs.Faults.{count_up, Rose};
 
 use crate::failed::Failed;
 use crate::failing::fails;
@@ -59,7 +59,7 @@ impl Sink for MemSink {
         ensures ok { OnOk result (self.new ≡ sink_after_write piece.now self.old) }
         ensures err { OnErr result (self.new ≡ sink_after_failed_write self.old) }
         ensures later { self.old.faults ≤ self.new.faults }
-        ensures chosen { IsTrue (is_failing self.old.failing (raised self.old.calls)) → IsErr result }
+        ensures chosen { IsTrue (is_failing self.old.failing (count_up self.old.calls)) → IsErr result }
     {
         self.calls = self.calls.saturating_add(1);
         if !fails(&self.failing, self.calls) && self.written.extend(piece).is_ok() {

@@ -13,7 +13,7 @@ use Rattle.kn_daemon.specs.Daemon.{State, state_after}
 use Rattle.kn_daemon.specs.CallFaults.{refusal_of_call_fault}
 use Rattle.kn_daemon.specs.Played.{no_config}
 use Rattle.kn_daemon.proofs.Faults.{fault-told, call-refusal}
-use Rattle.kn_play.specs.Playing.{state_of_sessions, applied}
+use Rattle.kn_play.specs.Playing.{state_of_sessions, after_shape}
 
 -- a refusal changes nothing
 kept : (refusal : Option Refusal) (old new : State) → is_some refusal ≡ true
@@ -29,7 +29,7 @@ after history sessions s call fault =
 
 -- a call is applied where no fault refuses it
 applied-after : (history : List Update) (sessions : OpenSessions) (s : ℕ) (call : Call)
-    → applied history sessions (Calls s call)
+    → after_shape history sessions (Calls s call)
     ≡ after history sessions s call (call_fault_in s (session_in sessions.sessions s) call)
 unfolding after
 applied-after history sessions s call =
@@ -38,7 +38,7 @@ applied-after history sessions s call =
     (call-refusal no_config (state_of_sessions sessions) s call)
 
 pub accepted : (history : List Update) (old new : OpenSessions) (s : ℕ) (call : Call) (gives : Applied)
-    → Accepts old new s call gives → state_of_sessions new ≡ applied history old (Calls s call)
+    → Accepts old new s call gives → state_of_sessions new ≡ after_shape history old (Calls s call)
 unfolding after
 accepted history old new s call gives accepts =
     ap state_of_sessions accepts.makes
@@ -47,7 +47,7 @@ accepted history old new s call gives accepts =
 
 pub refused : (history : List Update) (old new : OpenSessions) (s : ℕ) (call : Call) (fault : CallFault)
     → Refuses old new s call fault → lacks_memory fault ≡ false
-    → state_of_sessions new ≡ applied history old (Calls s call)
+    → state_of_sessions new ≡ after_shape history old (Calls s call)
 unfolding after
 refused history old new s call fault refuses memory =
     ap state_of_sessions refuses.same ∙ by refuses.why ∙ sym (applied-after history old s call)

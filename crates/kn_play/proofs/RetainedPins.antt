@@ -8,7 +8,7 @@ use Rattle.kn_reply.specs.declared.refusal.Refusal.{Refusal}
 use Rattle.kn_daemon.specs.Shapes.{Looks, ForPinAt}
 use Rattle.kn_daemon.specs.Daemon.{State, own_refusal, pinned_to}
 use Rattle.kn_daemon.specs.Played.{no_config}
-use Rattle.kn_play.specs.Playing.{state_of_sessions, applied}
+use Rattle.kn_play.specs.Playing.{state_of_sessions, after_shape}
 
 -- the state after a request to pin a session to the version of these updates, where that is retained
 abbrev pub after_pin : OpenSessions → ℕ → Option (List Update) → State
@@ -19,7 +19,7 @@ after_pin old s version =
 
 -- a version that isn't retained pins nothing
 pub not-retained : (history : List Update) (old : OpenSessions) (s v : ℕ) → retained_version history v ≡ None
-    → state_of_sessions old ≡ applied history old (Looks (ForPinAt s v))
+    → state_of_sessions old ≡ after_shape history old (Looks (ForPinAt s v))
 not-retained history old s v none =
     by (own_refusal no_config (state_of_sessions old) (Looks (ForPinAt s v))) (retained_version history v) none
   where

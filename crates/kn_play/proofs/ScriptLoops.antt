@@ -7,7 +7,7 @@ use Rattle.std.proofs.Math.Seq.{take-add}
 use Rattle.std.proofs.lemmas.List.{length_push}
 use Rattle.kn_history.specs.declared.update.Update.{Update}
 use Rattle.kn_wire.specs.Requests.{Request, Takes, AreRequests}
-use Rattle.kn_wire.specs.Feeding.{Held, Bytes, held_bytes, pushed, next_of}
+use Rattle.kn_wire.specs.Feeding.{Held, Bytes, held_bytes, with_piece, next_of}
 use Rattle.kn_wire.proofs.Growing.{next-grows, pushed-pushed, pushed-nothing, pushed-not_shut, none-left}
 use Rattle.kn_wire.proofs.Readings.{takes-push}
 use Rattle.kn_session.specs.Sessions.{OpenSessions}
@@ -35,7 +35,7 @@ range-joins script from end less =
 
 pub feeds-piece : (script : List ℕ) (from end : ℕ) (held after : Held) (piece : List ℕ) (requests : List Request)
     → IsFed script from held requests
-    → end ≤ length script → take end script ≡ take from script ++ piece → after ≡ pushed held piece
+    → end ≤ length script → take end script ≡ take from script ++ piece → after ≡ with_piece held piece
     → IsFed script end after requests
 feeds-piece script from end held after piece requests fed within more same =
     subst (λ h. IsFed script end h requests) (sym same)
@@ -43,7 +43,7 @@ feeds-piece script from end held after piece requests fed within more same =
       within = within;
       begins = λ rest.
           subst (Takes (take end script ++ rest) requests) (sym (pushed-pushed held piece rest))
-          (subst (λ text. Takes text requests (held_bytes (pushed held (piece ++ rest))))
+          (subst (λ text. Takes text requests (held_bytes (with_piece held (piece ++ rest))))
           (sym (append_assoc (take from script) piece rest) ∙ ap (λ front. front ++ rest) (sym more))
           (fed.begins (piece ++ rest)));
       not_shut = pushed-not_shut held piece fed.not_shut;
@@ -61,8 +61,8 @@ module _ (script : List ℕ) (requests : List Request) (from : ℕ) where
       record {
         within = fed.within;
         begins = λ more.
-            takes-push (take from script ++ more) requests (held_bytes (pushed held more)) request
-            (held_bytes (pushed after more)) (fed.begins more)
+            takes-push (take from script ++ more) requests (held_bytes (with_piece held more)) request
+            (held_bytes (with_piece after more)) (fed.begins more)
             (next-grows held after request more fed.not_shut next);
         not_shut = λ goes_on. next-not_shut held after request fed.not_shut
             (or-right (is_bye request) (is_block request) goes_on) next;
@@ -76,11 +76,12 @@ module _ (script : List ℕ) (requests : List Request) (from : ℕ) where
 
   -- the requests that were taken are the first ones of the script
   pub taken-first : (held : Held)
-      → ((more : List ℕ) → Takes (take from script ++ more) requests (held_bytes (pushed held more)))
+      → ((more : List ℕ) → Takes (take from script ++ more) requests (held_bytes (with_piece held more)))
       → GoOn script requests
   taken-first held begins =
-      go-on script requests (held_bytes (pushed held (drop from script)))
-      (subst (λ text. Takes text requests (held_bytes (pushed held (drop from script)))) (take-append-drop from script)
+      go-on script requests (held_bytes (with_piece held (drop from script)))
+      (subst (λ text. Takes text requests (held_bytes (with_piece held (drop from script))))
+      (take-append-drop from script)
       (begins (drop from script)))
 
   -- and all of them, where no more is left

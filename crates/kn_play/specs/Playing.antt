@@ -4,7 +4,7 @@ use Rattle.std.specs.List.{list_any}
 use Rattle.std.specs.Option.{option_map_or}
 use Rattle.kn_history.specs.declared.update.Update.{Update}
 use Rattle.kn_wire.specs.Requests.{Request, AreRequests, Takes}
-use Rattle.kn_wire.specs.Feeding.{Held, held_bytes, pushed, next_of, is_shut}
+use Rattle.kn_wire.specs.Feeding.{Held, held_bytes, with_piece, next_of, is_shut}
 use Rattle.kn_session.specs.Sessions.{Session, OpenSessions, session_in}
 use Rattle.kn_daemon.specs.Daemon.{State, first_state, session_of, own_refusal, state_after}
 use Rattle.kn_daemon.specs.Played.{after_request, played, is_last, up_to_end, no_config, AsksOf, IsAsking}
@@ -19,8 +19,8 @@ abbrev pub state_of_sessions : OpenSessions → State
 state_of_sessions sessions = record { started = sessions.started; sessions = sessions.sessions; is_admin = false }
 
 -- the state after a request of this shape over a version that nothing changes
-abbrev pub applied : List Update → OpenSessions → Shape → State
-applied history sessions shape =
+abbrev pub after_shape : List Update → OpenSessions → Shape → State
+after_shape history sessions shape =
     option_map_or (λ refusal. state_of_sessions sessions) (own_refusal no_config (state_of_sessions sessions) shape)
     (state_after history (state_of_sessions sessions) shape)
 
@@ -46,7 +46,7 @@ Asks state request asked = AsksFor state (shape_of request) asked
 -- the request was played
 pub record IsRequestPlayed (history : List Update) (old : OpenSessions) (request : Request) (new : OpenSessions)
     (step : Step) : Type 0 where
-  pub state : state_of_sessions new ≡ applied history old (shape_of request)
+  pub state : state_of_sessions new ≡ after_shape history old (shape_of request)
   pub asks : Asks (state_of_sessions old) request step.asked
   pub last : step.is_last ≡ is_last request
 
@@ -59,7 +59,7 @@ PlaysNext history old held new after (Some step) = (request : Request) × (next_
 -- the first so many bytes of a script, and whatever follows them, begin with these requests
 abbrev pub BeginsWith : List ℕ → ℕ → Held → List Request → Type 0
 BeginsWith script from held requests = (more : List ℕ)
-    → Takes (take from script ++ more) requests (held_bytes (pushed held more))
+    → Takes (take from script ++ more) requests (held_bytes (with_piece held more))
 
 -- the first so many bytes of a script were fed, these requests were taken, and more can be
 pub record IsFed (script : List ℕ) (from : ℕ) (held : Held) (requests : List Request) : Type 0 where

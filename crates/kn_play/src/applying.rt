@@ -8,7 +8,7 @@ ghost use Rattle.kn_wire.specs.Hex.{bytes_of_hex};
 ghost use Rattle.kn_wire.specs.Requests.{is_hex};
 ghost use Rattle.kn_daemon.specs.Shapes.{Calls, Asks, Looks, ForOpen, ForPin, ForPinAt, ForNews, ToKeep};
 ghost use Rattle.kn_daemon.specs.Shapes.{shape_in_code, IsFormed};
-ghost use Rattle.kn_play.specs.Playing.{state_of_sessions, applied, NumbersGoOn};
+ghost use Rattle.kn_play.specs.Playing.{state_of_sessions, after_shape, NumbersGoOn};
 
 use crate::asking::read_query;
 use kn_base::NoMemory;
@@ -28,7 +28,8 @@ pub(crate) fn apply(
 ) -> Result<(), NoMemory>
     requires room { NumbersGoOn sessions.old }
     requires form { IsFormed shape }
-    ensures { OnOk result (state_of_sessions sessions.new ≡ applied book.now sessions.old (shape_in_code shape.entry)) }
+    ensures { OnOk result (state_of_sessions sessions.new
+        ≡ after_shape book.now sessions.old (shape_in_code shape.entry)) }
 {
     match shape {
         Shape::Open => start(book, sessions),
@@ -52,7 +53,7 @@ pub(crate) fn apply(
 /// Starts a session at the newest version.
 fn start(book: &Book, sessions: &mut Sessions) -> Result<(), NoMemory>
     requires room { NumbersGoOn sessions.old }
-    ensures { OnOk result (state_of_sessions sessions.new ≡ applied book.now sessions.old (Looks ForOpen)) }
+    ensures { OnOk result (state_of_sessions sessions.new ≡ after_shape book.now sessions.old (Looks ForOpen)) }
 {
     let Ok(pinned) = book.snapshot().clone() else {
         return Err(NoMemory);
@@ -76,7 +77,7 @@ fn pass_refusal(fault: SessionFault) -> Result<(), NoMemory>
 
 /// Pins a session to the newest version.
 fn repin(book: &Book, sessions: &mut Sessions, s: u32) -> Result<(), NoMemory>
-    ensures { OnOk result (state_of_sessions sessions.new ≡ applied book.now sessions.old (Looks (ForPin s))) }
+    ensures { OnOk result (state_of_sessions sessions.new ≡ after_shape book.now sessions.old (Looks (ForPin s))) }
 {
     pin_to(book.snapshot(), sessions, s)
 }
@@ -84,7 +85,7 @@ fn repin(book: &Book, sessions: &mut Sessions, s: u32) -> Result<(), NoMemory>
 /// Pins a session to a version that is retained. Another one is refused.
 fn repin_at(book: &Book, sessions: &mut Sessions, s: u32, version: u32) -> Result<(), NoMemory>
     ensures { OnOk result (state_of_sessions sessions.new
-        ≡ applied book.now sessions.old (Looks (ForPinAt s version))) }
+        ≡ after_shape book.now sessions.old (Looks (ForPinAt s version))) }
 {
     match book.retained(version) {
         Some(retained) => pin_to(retained, sessions, s),
@@ -95,7 +96,7 @@ fn repin_at(book: &Book, sessions: &mut Sessions, s: u32, version: u32) -> Resul
 /// Pins a session to a version, as if that were the newest one.
 fn pin_to(snapshot: &Snapshot, sessions: &mut Sessions, s: u32) -> Result<(), NoMemory>
     ensures { OnOk result (state_of_sessions sessions.new
-        ≡ applied (arc_value snapshot.now) sessions.old (Looks (ForPin s))) }
+        ≡ after_shape (arc_value snapshot.now) sessions.old (Looks (ForPin s))) }
 {
     let Ok(pinned) = snapshot.clone() else {
         return Err(NoMemory);
@@ -106,7 +107,7 @@ fn pin_to(snapshot: &Snapshot, sessions: &mut Sessions, s: u32) -> Result<(), No
 
 /// Moves the standing query of a session, if it has one, to the newest version.
 fn move_standing(book: &Book, sessions: &mut Sessions, s: u32) -> Result<(), NoMemory>
-    ensures { OnOk result (state_of_sessions sessions.new ≡ applied book.now sessions.old (Looks (ForNews s))) }
+    ensures { OnOk result (state_of_sessions sessions.new ≡ after_shape book.now sessions.old (Looks (ForNews s))) }
 {
     let Ok(newest) = book.snapshot().clone() else {
         return Err(NoMemory);
@@ -118,7 +119,7 @@ fn move_standing(book: &Book, sessions: &mut Sessions, s: u32) -> Result<(), NoM
 /// Keeps what a session asks, where that is answered, as its standing query.
 fn watch(alloc: Global, sessions: &mut Sessions, s: u32, names: &[u8]) -> Result<(), NoMemory>
     ensures { (history : List Update)
-        → OnOk result (state_of_sessions sessions.new ≡ applied history sessions.old (Asks ToKeep s names.now)) }
+        → OnOk result (state_of_sessions sessions.new ≡ after_shape history sessions.old (Asks ToKeep s names.now)) }
 {
     match read_query(alloc, sessions, s, names)? {
         Some(asked) => match sessions.watch(s, asked.values, None) {
@@ -138,7 +139,8 @@ fn apply_call(
 ) -> Result<(), NoMemory>
     requires room { NumbersGoOn sessions.old }
     ensures { (history : List Update)
-        → OnOk result (state_of_sessions sessions.new ≡ applied history sessions.old (Calls s (call_of call.entry))) }
+        → OnOk result (state_of_sessions sessions.new
+        ≡ after_shape history sessions.old (Calls s (call_of call.entry))) }
 {
     match sessions.apply(alloc, s, call) {
         Ok(_) => Ok(()),
@@ -164,7 +166,7 @@ fn set_hex(
     requires digits { is_hex digits.now ≡ true }
     ensures { (history : List Update)
         → OnOk result (state_of_sessions sessions.new
-        ≡ applied history sessions.old (Calls s (Set name.now (bytes_of_hex digits.now)))) }
+        ≡ after_shape history sessions.old (Calls s (Set name.now (bytes_of_hex digits.now)))) }
 {
     let bytes = decode_hex(alloc, digits)?;
     let value = bytes.as_slice();

@@ -5,7 +5,7 @@ use Rattle.kn_trees.specs.declared.program.Comparison.{Comparison}
 use Rattle.kn_trees.specs.declared.program.Comparison.TheVariants.{Eq}
 use Rattle.kn_trees.specs.declared.program.Operation.{Operation}
 use Rattle.kn_fields.specs.Words.{Word, itself}
-use Rattle.kn_fields.specs.Reading.{taken, marked}
+use Rattle.kn_fields.specs.Reading.{taken, read_mark}
 use Rattle.kn_fields.specs.Words.Word.{sign as sign_word}
 use Rattle.kn_program.specs.Signs.{operation_text, operation_of, comparison_text, comparison_of, prefix_text, prefix_of}
 use Rattle.kn_program.specs.Signs.{is_at}
@@ -43,10 +43,10 @@ abbrev pub StopsCmp : List Word → Type 0
 StopsCmp rest = StopsSum rest × (taken comparison_of rest ≡ None)
 
 abbrev pub StopsAnd : List Word → Type 0
-StopsAnd rest = StopsCmp rest × (marked (codes "&&") rest ≡ None)
+StopsAnd rest = StopsCmp rest × (read_mark (codes "&&") rest ≡ None)
 
 abbrev pub StopsOr : List Word → Type 0
-StopsOr rest = StopsAnd rest × (marked (codes "||") rest ≡ None)
+StopsOr rest = StopsAnd rest × (read_mark (codes "||") rest ≡ None)
 
 product_stops : (s : Operation) (rest : List Word) → is_at level.Product s ≡ true
     → StopsPower (sign_word (operation_text s) ∷ rest)

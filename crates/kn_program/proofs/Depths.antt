@@ -17,7 +17,7 @@ use Rattle.kn_trees.specs.declared.program.Clause.{Clause as ClauseTree}
 use Rattle.kn_program.specs.Signs.{operation_text, comparison_text}
 use Rattle.kn_fields.specs.Words.{Word}
 use Rattle.kn_fields.specs.Words.Word.{sign as sign_word}
-use Rattle.kn_program.specs.Trees.{joined, chained, prefixed}
+use Rattle.kn_program.specs.Trees.{joined, chained, with_prefix}
 use Rattle.kn_program.specs.Grammar.{Or, And, Not, Cmp, Sum, Product, Power, Unary, Atom, or_words, and_words}
 use Rattle.kn_program.specs.Grammar.{not_words, cmp_words, sum_words, product_words, power_words, unary_words}
 use Rattle.kn_program.specs.Grammar.{atom_words, or_parts, and_parts, not_tree, cmp_tree, sum_first, sum_links}
@@ -59,7 +59,7 @@ unfolding chained
 depth_chained first [] = omega arith
 depth_chained first (link ∷ links) = omega (arith, depth-Chain first (link ∷ links))
 
-depth_prefixed : (sign : Prefix) (part : Expr) → expr_depth (prefixed sign part) ≡ 1 + expr_depth part
+depth_prefixed : (sign : Prefix) (part : Expr) → expr_depth (with_prefix sign part) ≡ 1 + expr_depth part
 depth_prefixed Minus part = depth-Minus part
 depth_prefixed Number part = depth-Number part
 depth_prefixed Deref part = depth-Deref part

@@ -2,7 +2,7 @@
 use Rattle.std.proofs.Common.{◌≡◌, ◌≤◌, true, length, arith, List, [], ◌∷◌, ◌++◌, codes, None, refl}
 use Rattle.std.proofs.lemmas.List.{append_assoc}
 use Rattle.kn_fields.specs.Words.{Word, itself}
-use Rattle.kn_fields.specs.Reading.{taken, marked}
+use Rattle.kn_fields.specs.Reading.{taken, read_mark}
 use Rattle.kn_program.specs.Signs.{prefix_of}
 use Rattle.kn_program.specs.Grammar.{Or, And, Not, Cmp, Sum, Product, Power, Unary, Atom, or_words, and_words}
 use Rattle.kn_program.specs.Grammar.{not_words, cmp_words, sum_words, product_words, power_words, unary_words}
@@ -14,11 +14,11 @@ use Rattle.kn_program.specs.declared.signs.Prefix.TheVariants.{Minus, Number, De
 
 -- the words begin with neither `;` nor `}`, nor `{`
 abbrev pub StartsTest : List Word → Type 0
-StartsTest words = (has_clause words ≡ true) × (marked (codes "{") words ≡ None)
+StartsTest words = (has_clause words ≡ true) × (read_mark (codes "{") words ≡ None)
 
 -- nor with `!`
 abbrev pub StartsOperand : List Word → Type 0
-StartsOperand words = StartsTest words × (marked (codes "!") words ≡ None)
+StartsOperand words = StartsTest words × (read_mark (codes "!") words ≡ None)
 
 mutual
   unfolding taken itself or_words and_words not_words cmp_words sum_words product_words power_words unary_words

@@ -20,7 +20,7 @@ use Rattle.kn_program.specs.Grammar.{unary_tree, Program, Entry, program_words, 
 use Rattle.kn_program.specs.Grammar.{entry_clauses, clause_tree}
 use Rattle.kn_program.proofs.Derivations.{ands, either, nots, each, product, added, power, multiplied, unary, raised}
 use Rattle.kn_program.proofs.Derivations.{ends, goes_on, nothing, something}
-use Rattle.kn_program.specs.Reading.{one_link, one_entry, listed}
+use Rattle.kn_program.specs.Reading.{one_link, one_entry, entries_of}
 use Rattle.kn_program.specs.declared.signs.Joint.TheVariants as joint
 use Rattle.kn_program.specs.declared.signs.Precedence.{Precedence}
 use Rattle.kn_program.specs.declared.signs.Precedence.TheVariants as level
@@ -153,12 +153,12 @@ abbrev pub entry_tree : Entry → Option ClauseTree
 entry_tree nothing = None
 entry_tree (something c) = Some (clause_tree c)
 
-pub entry_listed : (e : Entry) → entry_clauses e ≡ listed (entry_tree e) ++ []
+pub entry_listed : (e : Entry) → entry_clauses e ≡ entries_of (entry_tree e) ++ []
 unfolding entry_clauses
 entry_listed e = grind arith
 
 pub entry_first : (e : Entry) (clauses : List ClauseTree)
-    → entry_clauses e ++ clauses ≡ listed (entry_tree e) ++ clauses
+    → entry_clauses e ++ clauses ≡ entries_of (entry_tree e) ++ clauses
 unfolding entry_clauses
 entry_first e clauses = grind arith
 

@@ -12,7 +12,7 @@ use Rattle.kn_program.specs.Grammar.{Or, or_words, or_tree, Program, Entry, Clau
 use Rattle.kn_program.specs.Grammar.{clause_words, program_clauses, clause_tree}
 use Rattle.kn_program.specs.Grammar.Entry.{nothing, something}
 use Rattle.kn_program.specs.Grammar.Clause.{bare, valued, nested}
-use Rattle.kn_fields.specs.Reading.{Read, Reader, map_read, then_read, behind_sign, closed_by, taken, marked}
+use Rattle.kn_fields.specs.Reading.{Read, Reader, map_read, then_read, behind_sign, closed_by, taken, read_mark}
 use Rattle.kn_fields.proofs.Words.{read_parts, marked_before, marked_there}
 use Rattle.kn_fields.proofs.Steps.{mapped, behind, chosen}
 use Rattle.kn_fields.proofs.Levels.{Spelled, IsSound, none_sound, level_sound, level_complete, closed_sound}
@@ -48,7 +48,7 @@ entry_sound clause sound words x rest e = by (has_clause words) e
 
 abbrev clause_go : (Reader Expr) → (Reader (List ClauseTree)) → Expr → Reader ClauseTree
 clause_go tests program test rest =
-    behind_sign (marked (codes "->") rest) (Some (clause_with test Top, rest))
+    behind_sign (read_mark (codes "->") rest) (Some (clause_with test Top, rest))
     (λ mark behind. map_read (clause_with test) (value_after behind tests program))
 
 value_sound : (tests : Reader Expr) (program : Reader (List ClauseTree))
@@ -59,7 +59,7 @@ value_sound : (tests : Reader Expr) (program : Reader (List ClauseTree))
     → Spelled clause_words clause_tree words x rest
 unfolding clause_words clause_tree
 value_sound tests program tested programmed o left value rest words middle x test e front middle_is test_is made =
-    elim (chosen (marked (codes "{") left) (map_read Value (tests left))
+    elim (chosen (read_mark (codes "{") left) (map_read Value (tests left))
     (λ mark inner. map_read block (then_read (program inner) (closed_by (codes "}")))) value rest e) [
       | inl a ↦
           let m = mapped Value (tests left) value rest a.is in
@@ -87,7 +87,7 @@ unfolding clause_words clause_tree
 clause_sound tests program tested programmed words x rest e =
     let b = behind (tests words) (clause_go tests program) x rest e in
     let o = tested words b.first b.middle b.is in
-    elim (chosen (marked (codes "->") b.middle) (Some (clause_with b.first Top, b.middle))
+    elim (chosen (read_mark (codes "->") b.middle) (Some (clause_with b.first Top, b.middle))
     (λ mark behind. map_read (clause_with b.first) (value_after behind tests program)) x rest b.then_is) [
       | inl a ↦
           let same = read_parts (clause_with b.first Top) x b.middle rest a.is in
@@ -120,7 +120,7 @@ mutual
 
 -- no clause goes on with these words, and none begins with them
 abbrev pub StopsClause : List Word → Type 0
-StopsClause rest = StopsOr rest × (marked (codes "->") rest ≡ None)
+StopsClause rest = StopsOr rest × (read_mark (codes "->") rest ≡ None)
 
 abbrev pub StopsEntry : List Word → Type 0
 StopsEntry rest = StopsClause rest × (has_clause rest ≡ false)
@@ -133,7 +133,7 @@ brace_entry : (rest : List Word) → StopsEntry (sign_word (codes "}") ∷ rest)
 unfolding taken itself
 brace_entry rest = ((brace_stops rest, refl), refl)
 
-brace_last : (rest : List Word) → marked (codes ";") (sign_word (codes "}") ∷ rest) ≡ None
+brace_last : (rest : List Word) → read_mark (codes ";") (sign_word (codes "}") ∷ rest) ≡ None
 unfolding taken itself
 brace_last rest = refl
 
@@ -150,7 +150,7 @@ IsClauseComplete n = (c : Clause) (rest : List Word) → 12 * length (clause_wor
 abbrev pub IsProgramComplete : ℕ → Type 0
 IsProgramComplete n =
     (p : Program) (rest : List Word) → 12 * length (program_words p) + 1 ≤ n → StopsEntry rest
-    → marked (codes ";") rest ≡ None → program_at n (program_words p ++ rest) ≡ Some (program_clauses p, rest)
+    → read_mark (codes ";") rest ≡ None → program_at n (program_words p ++ rest) ≡ Some (program_clauses p, rest)
 
 entry_complete : (n : ℕ) → IsClauseComplete n → (e : Entry) (rest : List Word) → 12 * length (entry_words e) ≤ n
     → StopsEntry rest

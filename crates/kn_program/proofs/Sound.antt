@@ -8,14 +8,14 @@ use Rattle.kn_fields.specs.Words.{Word}
 use Rattle.kn_fields.specs.Words.Word.{literal as literal_word, name as name_word, number as number_word}
 use Rattle.kn_fields.specs.Words.Word.{sign as sign_word, other as other_word}
 use Rattle.kn_program.specs.Signs.{comparison_text, comparison_of, prefix_text, prefix_of, truth_of, number_of}
-use Rattle.kn_program.specs.Trees.{prefixed}
+use Rattle.kn_program.specs.Trees.{with_prefix}
 use Rattle.kn_program.specs.Grammar.{Atom, or_words, and_words, not_words, cmp_words, sum_words, product_words}
 use Rattle.kn_program.specs.Grammar.{power_words, unary_words, atom_words, or_parts, and_parts, not_tree, cmp_tree}
 use Rattle.kn_program.specs.Grammar.{sum_first, sum_links, product_first, product_links, power_first, power_links}
 use Rattle.kn_program.specs.Grammar.{unary_tree, atom_tree, or_tree}
 use Rattle.kn_program.proofs.Derivations.{cmp, negated, sum, compared, atom, signed, group, literal, number, truth}
 use Rattle.kn_program.proofs.Derivations.{name}
-use Rattle.kn_fields.specs.Reading.{Read, Reader, map_read, then_read, behind_sign, closed_by, taken, marked}
+use Rattle.kn_fields.specs.Reading.{Read, Reader, map_read, then_read, behind_sign, closed_by, taken, read_mark}
 use Rattle.kn_fields.proofs.Words.{read_parts, taken_before, marked_before}
 use Rattle.kn_fields.proofs.Steps.{mapped, behind, chosen}
 use Rattle.kn_fields.proofs.Levels.{Spelled, IsSound, none_sound, level_sound, closed_sound}
@@ -30,11 +30,12 @@ use Rattle.kn_program.proofs.Lists.{product_level, power_level}
 not_sound : (comparison negation : Reader Expr) → IsSound cmp_words cmp_tree comparison
     → IsSound not_words not_tree negation
     → IsSound not_words not_tree
-    (λ words. behind_sign (marked (codes "!") words) (comparison words)
+    (λ words. behind_sign (read_mark (codes "!") words) (comparison words)
     (λ mark rest. map_read E.Not (negation rest)))
 unfolding not_words not_tree
 not_sound comparison negation below same words x rest e =
-    elim (chosen (marked (codes "!") words) (comparison words) (λ mark rest. map_read E.Not (negation rest)) x rest e) [
+    elim (chosen (read_mark (codes "!") words) (comparison words) (λ mark rest. map_read E.Not (negation rest)) x rest
+    e) [
       | inl o ↦
           let c = below words x rest o.is in
           record { form = cmp c.form; spelled = c.spelled; means = c.means }
@@ -85,16 +86,17 @@ unary_sound : (atoms operands : Reader Expr) → IsSound atom_words atom_tree at
     → IsSound unary_words unary_tree operands
     → IsSound unary_words unary_tree
     (λ words. behind_sign (taken prefix_of words) (atoms words)
-    (λ found rest. map_read (prefixed found) (operands rest)))
+    (λ found rest. map_read (with_prefix found) (operands rest)))
 unfolding unary_words unary_tree
 unary_sound atoms operands below same words x rest e =
-    elim (chosen (taken prefix_of words) (atoms words) (λ found rest. map_read (prefixed found) (operands rest)) x rest
+    elim (chosen (taken prefix_of words) (atoms words) (λ found rest. map_read (with_prefix found) (operands rest)) x
+    rest
     e) [
       | inl o ↦
           let a = below words x rest o.is in
           record { form = atom a.form; spelled = a.spelled; means = a.means }
       | inr t ↦
-          let m = mapped (prefixed t.found) (operands t.left) x rest t.is in
+          let m = mapped (with_prefix t.found) (operands t.left) x rest t.is in
           let u = same t.left m.from rest m.is in
           let sign = taken_before prefix_of words t.left t.found t.there in
           let words_are : words ≡ sign_word (prefix_text t.found) ∷ t.left =
@@ -103,16 +105,16 @@ unary_sound atoms operands below same words x rest e =
           record {
             form = signed t.found u.form;
             spelled = rw (words_are, u.spelled) refl;
-            means = ap (prefixed t.found) u.means ∙ m.made;
+            means = ap (with_prefix t.found) u.means ∙ m.made;
           }
     ]
 
 group_sound : (tests : Reader Expr) → IsSound or_words or_tree tests
     → IsSound atom_words atom_tree
-    (λ words. then_read (marked (codes "(") words) (λ mark inner. then_read (tests inner) (closed_by (codes ")"))))
+    (λ words. then_read (read_mark (codes "(") words) (λ mark inner. then_read (tests inner) (closed_by (codes ")"))))
 unfolding atom_words atom_tree
 group_sound tests sound words x rest e =
-    let a = behind (marked (codes "(") words) (λ mark inner. then_read (tests inner) (closed_by (codes ")"))) x rest
+    let a = behind (read_mark (codes "(") words) (λ mark inner. then_read (tests inner) (closed_by (codes ")"))) x rest
     e in
     let b = closed_sound (codes ")") or_words or_tree tests sound a.middle x rest a.then_is in
     record {

@@ -3,7 +3,7 @@ use Rattle.std.proofs.Common.{◌≡◌, ℕ, ◌+◌, ◌-◌, ◌<◌, List, [
 use Rattle.std.proofs.Common.{arith}
 use Rattle.std.proofs.Common.{append_assoc, length-append}
 use Rattle.kn_fields.specs.Words.{Word}
-use Rattle.kn_fields.specs.Reading.{Read, taken, marked}
+use Rattle.kn_fields.specs.Reading.{Read, taken, read_mark}
 use Rattle.kn_fields.proofs.Steps.{not_none, going_more, going_last}
 use Rattle.kn_trees.specs.declared.program.Expr.{Expr}
 use Rattle.kn_trees.specs.declared.program.Expr.TheVariants as E
@@ -66,7 +66,7 @@ module _ {joint : Joint} {budget left count : ℕ} {below stack longer : List Ex
     (p : Parts joint budget left count below stack words all) (some : 0 < left)
     (read : Stands (test_at budget joint words) stack longer rest) where
   -- and a joint behind it
-  pub parts_more : {further : List Word} → marked (joint_text joint) rest ≡ Some (tt, further)
+  pub parts_more : {further : List Word} → read_mark (joint_text joint) rest ≡ Some (tt, further)
       → Parts joint budget (left - 1) (count + 1) below longer further all
   parts_more sign = record {
     parts = p.parts ++ read.read ∷ [];
@@ -77,7 +77,7 @@ module _ {joint : Joint} {budget left count : ℕ} {below stack longer : List Ex
   }
 
   -- no joint is behind it
-  pub parts_last : {whole : List Expr} {end : List Word} → marked (joint_text joint) rest ≡ None → end ≡ rest
+  pub parts_last : {whole : List Expr} {end : List Word} → read_mark (joint_text joint) rest ≡ None → end ≡ rest
       → ((front parts : List Expr) → longer ≡ front ++ parts → length parts ≡ count + 1
       → whole ≡ front ++ several joint parts ∷ [])
       → Stands all below whole end

@@ -10,7 +10,7 @@ use Rattle.kn_trees.specs.Kinds.{is_well_kinded}
 use Rattle.kn_trees.specs.declared.program.Program.{Program as ProgramTree}
 use Rattle.kn_program.specs.Grammar.{Program, program_words, program_clauses, program_with, program_tree, IsProgram}
 use Rattle.kn_program.specs.Reading.{program_at, read_program}
-use Rattle.kn_program.specs.Conditions.{IsConditions, HasNoProgram, Shows, judged, judged_read, program_of}
+use Rattle.kn_program.specs.Conditions.{IsConditions, HasNoProgram, Shows, check_program, judged_read, program_of}
 use Rattle.kn_program.specs.declared.fault.ProgramFault.{ProgramFault}
 use Rattle.kn_program.specs.declared.fault.ProgramFault.TheVariants.{Syntax, Kind, NoMemory}
 use Rattle.kn_program.proofs.Complete.{nil_stops}
@@ -56,7 +56,7 @@ spelled_once tokens a b s t = let first = spelled_read tokens a s in let second 
 
 -- what is found of tokens, by what is spelled
 of_spelled : (tokens : List TokenView) (program : ProgramTree) → (tokens ≡ [] → ⊥) → IsProgram tokens program
-    → program_of tokens ≡ judged program
+    → program_of tokens ≡ check_program program
 unfolding program_of
 of_spelled [] program some s = absurd (some refl)
 of_spelled (token ∷ tokens) program some s = ap judged_read (spelled_read (token ∷ tokens) program s)

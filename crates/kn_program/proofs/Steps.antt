@@ -1,7 +1,8 @@
 -- Reading step by step.
 use Rattle.std.proofs.Common.{◌≡◌, ℕ, zero, suc, ◌-◌, ◌<◌, ◌≤◌, List, [], codes, Some, None, refl, sym, ap, arith}
 use Rattle.kn_fields.specs.Words.{Word}
-use Rattle.kn_fields.specs.Reading.{Read, map_read, then_read, behind_sign, tail_at, list_at, one_part, taken, marked}
+use Rattle.kn_fields.specs.Reading.{Read, map_read, then_read, behind_sign, tail_at, list_at, one_part, taken}
+use Rattle.kn_fields.specs.Reading.{read_mark}
 use Rattle.kn_fields.proofs.Steps.{Going, going_list, tail_step}
 use Rattle.kn_trees.specs.declared.program.Expr.{Expr}
 use Rattle.kn_trees.specs.declared.program.Expr.TheVariants as E
@@ -10,7 +11,7 @@ use Rattle.kn_trees.specs.declared.program.Operation.{Operation}
 use Rattle.kn_trees.specs.declared.program.Clause.{Clause}
 use Rattle.kn_trees.specs.declared.program.Then.TheVariants.{Top}
 use Rattle.kn_program.specs.Signs.{joint_text, height, operation_of, comparison_of, prefix_of}
-use Rattle.kn_program.specs.Trees.{joined, chained, prefixed}
+use Rattle.kn_program.specs.Trees.{joined, chained, with_prefix}
 use Rattle.kn_program.specs.declared.signs.Joint.{Joint}
 use Rattle.kn_program.specs.declared.signs.Joint.TheVariants.{Or, And}
 use Rattle.kn_program.specs.declared.signs.Precedence.{Precedence}
@@ -26,7 +27,8 @@ one_less n = omega arith
 -- tests with a joint between them: a first one, and where a joint stands behind it, the others
 pub tests_step : (budget : ℕ) (joint : Joint) (words : List Word) → (budget ≡ 0 → ⊥) → tests_at budget joint words
     ≡ then_read (test_at (budget - 1) joint words) (λ first rest.
-    behind_sign (marked (joint_text joint) rest) (Some (first, rest)) (λ mark. more_tests_at (budget - 1) joint first))
+    behind_sign (read_mark (joint_text joint) rest) (Some (first, rest))
+    (λ mark. more_tests_at (budget - 1) joint first))
 unfolding tests_at list_at tail_at joined
 tests_step zero joint words some = absurd (some refl)
 tests_step (suc n) Or words some = simp one_less (grind arith)
@@ -35,7 +37,7 @@ tests_step (suc n) And words some = simp one_less (grind arith)
 -- tests of which so much is read
 abbrev pub Tests : Joint → ℕ → ℕ → List Expr → List Word → Read Expr → Type 0
 Tests joint budget left parts words all =
-    Going (marked (joint_text joint)) one_part (test_at budget joint) (joined joint) left tt parts words all
+    Going (read_mark (joint_text joint)) one_part (test_at budget joint) (joined joint) left tt parts words all
 
 -- operands with operations of a level between them
 
@@ -117,7 +119,7 @@ climb_none Sum budget operand words enough ends =
 -- what each step reads, of which there are some
 
 pub negation_step : (budget : ℕ) (words : List Word) → (budget ≡ 0 → ⊥)
-    → negation_at budget words ≡ behind_sign (marked (codes "!") words) (comparison_at (budget - 1) words)
+    → negation_at budget words ≡ behind_sign (read_mark (codes "!") words) (comparison_at (budget - 1) words)
     (λ mark rest. map_read E.Not (negation_at (budget - 1) rest))
 unfolding negation_at
 negation_step zero words some = absurd (some refl)
@@ -133,7 +135,7 @@ comparison_step (suc n) words some = simp one_less
 
 pub operand_step : (budget : ℕ) (words : List Word) → (budget ≡ 0 → ⊥)
     → operand_at budget words ≡ behind_sign (taken prefix_of words) (atom_at (budget - 1) words)
-    (λ found rest. map_read (prefixed found) (operand_at (budget - 1) rest))
+    (λ found rest. map_read (with_prefix found) (operand_at (budget - 1) rest))
 unfolding operand_at
 operand_step zero words some = absurd (some refl)
 operand_step (suc n) words some = simp one_less
@@ -146,7 +148,7 @@ atom_step (suc n) words some = simp one_less
 
 pub clause_step : (budget : ℕ) (words : List Word) → (budget ≡ 0 → ⊥) → clause_at budget words
     ≡ then_read (tests_at (budget - 1) Or words)
-    (λ test rest. behind_sign (marked (codes "->") rest) (Some (clause_with test Top, rest)) (λ mark behind.
+    (λ test rest. behind_sign (read_mark (codes "->") rest) (Some (clause_with test Top, rest)) (λ mark behind.
     map_read (clause_with test) (value_after behind (tests_at (budget - 1) Or) (program_at (budget - 1)))))
 unfolding clause_at
 clause_step zero words some = absurd (some refl)
@@ -155,25 +157,25 @@ clause_step (suc n) words some = simp one_less
 -- programs
 
 program_step : (budget : ℕ) (words : List Word)
-    → program_at budget words ≡ list_at (marked (codes ";")) one_entry with_entry (entry_at (clause_at (budget - 1)))
+    → program_at budget words ≡ list_at (read_mark (codes ";")) one_entry with_entry (entry_at (clause_at (budget - 1)))
     budget words
 unfolding program_at list_at tail_at
 program_step zero words = grind arith
 program_step (suc n) words =
-    ap (λ m. list_at (marked (codes ";")) one_entry with_entry (entry_at (clause_at m)) (suc n) words)
+    ap (λ m. list_at (read_mark (codes ";")) one_entry with_entry (entry_at (clause_at m)) (suc n) words)
     (sym (one_less n))
 
 -- clauses of which so much is read
 abbrev pub Clauses : ℕ → ℕ → List Clause → List Word → List Word → Type 0
 Clauses budget left list words all =
-    Going (marked (codes ";")) one_entry (entry_at (clause_at (budget - 1))) (λ clauses. clauses) left tt list words
+    Going (read_mark (codes ";")) one_entry (entry_at (clause_at (budget - 1))) (λ clauses. clauses) left tt list words
     (program_at budget all)
 
 pub program_start : (budget : ℕ) (list : List Clause) (words : List Word) → list ≡ []
     → Clauses budget budget list words words
 program_start budget list words none =
     rw (program_step budget words)
-    (going_list (marked (codes ";")) one_entry (entry_at (clause_at (budget - 1))) (λ clauses. clauses) with_entry
+    (going_list (read_mark (codes ";")) one_entry (entry_at (clause_at (budget - 1))) (λ clauses. clauses) with_entry
     budget tt list words none (λ entry clauses. refl))
 
 pub ruleset climbs = (climb_step, links_step, some_levels)

@@ -41,12 +41,12 @@ Shows tokens Syntax = HasNoProgram tokens
 Shows tokens Kind = HasBadKinds tokens
 Shows tokens NoMemory = ⊥
 
-abbrev pub judged : Program → Result (Option Program) ProgramFault
-judged program = if is_well_kinded program then Ok (Some program) else Err Kind
+abbrev pub check_program : Program → Result (Option Program) ProgramFault
+check_program program = if is_well_kinded program then Ok (Some program) else Err Kind
 
 abbrev pub judged_read : Option Program → Result (Option Program) ProgramFault
 judged_read None = Err Syntax
-judged_read (Some program) = judged program
+judged_read (Some program) = check_program program
 
 -- the program of these tokens, or its first fault
 unfoldable pub program_of : List TokenView → Result (Option Program) ProgramFault

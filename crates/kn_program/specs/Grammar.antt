@@ -15,7 +15,7 @@ use Rattle.kn_trees.specs.declared.program.Program.{Program as ProgramTree, roll
 use Rattle.kn_trees.specs.declared.program.Clause.{Clause as ClauseTree}
 use Rattle.kn_trees.specs.declared.program.Then.TheVariants.{Top, Value, Block}
 use Rattle.kn_program.specs.Signs.{operation_text, comparison_text, prefix_text, is_at, truth_of, number_of}
-use Rattle.kn_program.specs.Trees.{joined, chained, prefixed}
+use Rattle.kn_program.specs.Trees.{joined, chained, with_prefix}
 use Rattle.kn_program.specs.declared.signs.Joint.TheVariants as joint
 use Rattle.kn_program.specs.declared.signs.Precedence.TheVariants as level
 use Rattle.kn_program.specs.declared.signs.Prefix.{Prefix}
@@ -156,7 +156,7 @@ unfoldable mutual
 
   pub unary_tree : Unary → Expr
   unary_tree (atom a) = atom_tree a
-  unary_tree (signed sign u) = prefixed sign (unary_tree u)
+  unary_tree (signed sign u) = with_prefix sign (unary_tree u)
 
   pub atom_tree : Atom → Expr
   atom_tree (group o) = joined joint.Or (or_parts o)

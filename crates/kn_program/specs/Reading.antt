@@ -6,7 +6,7 @@ use Rattle.std.specs.Option.{is_none}
 use Rattle.kn_fields.specs.Words.{Word, Mark}
 use Rattle.kn_fields.specs.Words.Word.{literal, name, number}
 use Rattle.kn_fields.specs.Reading.{Read, Reader, map_read, then_read, behind_sign, closed_by, more_at, tail_at}
-use Rattle.kn_fields.specs.Reading.{list_at, one_part, whole, taken, marked}
+use Rattle.kn_fields.specs.Reading.{list_at, one_part, whole, taken, read_mark}
 use Rattle.kn_trees.specs.Forms.{link}
 use Rattle.kn_trees.specs.declared.program.Expr.{Expr}
 use Rattle.kn_trees.specs.declared.program.Expr.TheVariants as E
@@ -17,7 +17,7 @@ use Rattle.kn_trees.specs.declared.program.Clause.{Clause}
 use Rattle.kn_trees.specs.declared.program.Then.{Then}
 use Rattle.kn_trees.specs.declared.program.Then.TheVariants.{Top, Value, Block}
 use Rattle.kn_program.specs.Signs.{joint_text, operation_of, comparison_of, prefix_of, truth_of, number_of}
-use Rattle.kn_program.specs.Trees.{joined, chained, prefixed}
+use Rattle.kn_program.specs.Trees.{joined, chained, with_prefix}
 use Rattle.kn_program.specs.Grammar.{program_with}
 use Rattle.kn_program.specs.declared.signs.Joint.{Joint}
 use Rattle.kn_program.specs.declared.signs.Joint.TheVariants.{Or, And}
@@ -48,7 +48,7 @@ constant_of word = None
 abbrev pub atom_by : Option Expr → Word → List Word → Reader Expr → Read Expr
 atom_by (Some found) word words tests = Some (found, words)
 atom_by None word words tests =
-    then_read (marked (codes "(") (word ∷ words)) (λ mark inner. then_read (tests inner) (closed_by (codes ")")))
+    then_read (read_mark (codes "(") (word ∷ words)) (λ mark inner. then_read (tests inner) (closed_by (codes ")")))
 
 -- one word, or an expression in brackets
 abbrev pub atom_front : List Word → Reader Expr → Read Expr
@@ -58,13 +58,15 @@ atom_front (word ∷ words) tests = atom_by (constant_of word) word words tests
 unfoldable mutual
   pub tests_at : ℕ → Joint → Reader Expr
   tests_at zero joint words = None
-  tests_at (suc n) Or words = list_at (marked (codes "||")) one_part (joined_parts Or) (tests_at n And) (suc n) words
-  tests_at (suc n) And words = list_at (marked (codes "&&")) one_part (joined_parts And) (negation_at n) (suc n) words
+  tests_at (suc n) Or words = list_at (read_mark (codes "||")) one_part (joined_parts Or) (tests_at n And) (suc n) words
+  tests_at (suc n) And words =
+      list_at (read_mark (codes "&&")) one_part (joined_parts And) (negation_at n) (suc n) words
 
   pub negation_at : ℕ → Reader Expr
   negation_at zero words = None
   negation_at (suc n) words =
-      behind_sign (marked (codes "!") words) (comparison_at n words) (λ mark rest. map_read E.Not (negation_at n rest))
+      behind_sign (read_mark (codes "!") words) (comparison_at n words)
+      (λ mark rest. map_read E.Not (negation_at n rest))
 
   pub comparison_at : ℕ → Reader Expr
   comparison_at zero words = None
@@ -84,7 +86,7 @@ unfoldable mutual
   operand_at zero words = None
   operand_at (suc n) words =
       behind_sign (taken prefix_of words) (atom_at n words)
-      (λ found rest. map_read (prefixed found) (operand_at n rest))
+      (λ found rest. map_read (with_prefix found) (operand_at n rest))
 
   pub atom_at : ℕ → Reader Expr
   atom_at zero words = None
@@ -104,7 +106,7 @@ side_at n Power words = operand_at n words
 abbrev pub more_tests_at : ℕ → Joint → Expr → Reader Expr
 more_tests_at n joint first words =
     map_read (joined_parts joint first)
-    (more_at one_part (test_at n joint) (tail_at (marked (joint_text joint)) one_part (test_at n joint) n) tt words)
+    (more_at one_part (test_at n joint) (tail_at (read_mark (joint_text joint)) one_part (test_at n joint) n) tt words)
 
 -- the operations of a level with a first side that is read, and a sign behind it
 abbrev pub more_links_at : ℕ → Precedence → Expr → Operation → Reader Expr
@@ -133,7 +135,8 @@ first_at n Power first words = Some (first, words)
 -- a clause stands here, and not the end of an empty one
 abbrev pub has_clause : List Word → Bool
 has_clause [] = false
-has_clause (word ∷ words) = is_none (marked (codes ";") (word ∷ words)) && is_none (marked (codes "}") (word ∷ words))
+has_clause (word ∷ words) = is_none (read_mark (codes ";") (word ∷ words))
+    && is_none (read_mark (codes "}") (word ∷ words))
 
 abbrev pub entry_by : Bool → Reader Clause → Reader (Option Clause)
 entry_by false clause words = Some (None, words)
@@ -143,15 +146,15 @@ entry_by true clause words = map_read Some (clause words)
 abbrev pub entry_at : Reader Clause → Reader (Option Clause)
 entry_at clause words = entry_by (has_clause words) clause words
 
-abbrev pub listed : Option Clause → List Clause
-listed None = []
-listed (Some clause) = clause ∷ []
+abbrev pub entries_of : Option Clause → List Clause
+entries_of None = []
+entries_of (Some clause) = clause ∷ []
 
 abbrev pub one_entry : Mark → Option Clause → List Clause
-one_entry mark entry = listed entry
+one_entry mark entry = entries_of entry
 
 abbrev pub with_entry : Option Clause → List Clause → List Clause
-with_entry entry clauses = listed entry ++ clauses
+with_entry entry clauses = entries_of entry ++ clauses
 
 abbrev pub clause_with : Expr → Then → Clause
 clause_with test value = record { test = test; then = value }
@@ -162,19 +165,19 @@ block clauses = Block (program_with clauses)
 -- what stands behind `->`
 abbrev pub value_after : List Word → Reader Expr → Reader (List Clause) → Read Then
 value_after words tests program =
-    behind_sign (marked (codes "{") words) (map_read Value (tests words)) (λ mark inner.
+    behind_sign (read_mark (codes "{") words) (map_read Value (tests words)) (λ mark inner.
     map_read block (then_read (program inner) (closed_by (codes "}"))))
 
 unfoldable mutual
   pub program_at : ℕ → Reader (List Clause)
   program_at zero words = None
-  program_at (suc n) words = list_at (marked (codes ";")) one_entry with_entry (entry_at (clause_at n)) (suc n) words
+  program_at (suc n) words = list_at (read_mark (codes ";")) one_entry with_entry (entry_at (clause_at n)) (suc n) words
 
   pub clause_at : ℕ → Reader Clause
   clause_at zero words = None
   clause_at (suc n) words =
       then_read (tests_at n Or words) (λ test rest.
-      behind_sign (marked (codes "->") rest) (Some (clause_with test Top, rest)) (λ mark behind.
+      behind_sign (read_mark (codes "->") rest) (Some (clause_with test Top, rest)) (λ mark behind.
       map_read (clause_with test) (value_after behind (tests_at n Or) (program_at n))))
 
 -- the program of all these words

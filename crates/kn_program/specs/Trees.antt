@@ -23,7 +23,7 @@ unfoldable pub chained : Expr → List Link2 → Expr
 chained first [] = first
 chained first (link ∷ links) = E.Chain first (link ∷ links)
 
-abbrev pub prefixed : Prefix → Expr → Expr
-prefixed Minus part = E.Minus part
-prefixed Number part = E.Number part
-prefixed Deref part = E.Deref part
+abbrev pub with_prefix : Prefix → Expr → Expr
+with_prefix Minus part = E.Minus part
+with_prefix Number part = E.Number part
+with_prefix Deref part = E.Deref part

@@ -3,7 +3,7 @@
 //! The budget bounds the steps of a reading, as with expressions. Twelve for each token and one more are enough.
 ghost use Rattle.std.specs.Prelude.{◌≡◌, ◌++◌, OnOk};
 ghost use Rattle.kn_fields.specs.Reading.{Reads, ReadsWhole};
-ghost use Rattle.kn_program.specs.Reading.{listed, has_clause, entry_at, program_at};
+ghost use Rattle.kn_program.specs.Reading.{entries_of, has_clause, entry_at, program_at};
 ghost use Rattle.kn_program.specs.Reading.{clause_at, tests_at, value_after, read_program};
 
 use crate::expression::tests;
@@ -15,7 +15,7 @@ use std::alloc::Global;
 
 /// Adds the clause of an entry, if it has one.
 fn add(list: &mut List<Clause>, entry: Option<Clause>) -> Result<(), NoMemory>
-    ensures { OnOk result (list.new ≡ list.old ++ listed entry) }
+    ensures { OnOk result (list.new ≡ list.old ++ entries_of entry) }
 {
     let Some(clause) = entry else {
         return Ok(());

@@ -9,7 +9,7 @@ ghost use Rattle.kn_fields.specs.Words.{word_of};
 ghost use Rattle.kn_fields.specs.Reading.{map_read};
 ghost use Rattle.kn_trees.specs.declared.program.Expr.TheVariants as E;
 ghost use Rattle.kn_program.specs.Signs.{height};
-ghost use Rattle.kn_program.specs.Trees.{prefixed};
+ghost use Rattle.kn_program.specs.Trees.{with_prefix};
 ghost use Rattle.kn_program.specs.Stacking.{Puts, PutsBehind, PutsWord};
 ghost use Rattle.kn_program.specs.Reading.{tests_at, more_tests_at, test_at, negation_at, comparison_at};
 ghost use Rattle.kn_program.specs.Reading.{chain_at, side_at, more_links_at, climb_at, first_at, operand_at, atom_at};
@@ -318,7 +318,8 @@ fn signed_operand(
     prefix: Prefix,
     budget: u64,
 ) -> Result<(), GrammarFault>
-    ensures { Puts result (map_read (prefixed prefix) (operand_at budget cursor.old)) stack.old stack.new cursor.new }
+    ensures { Puts result (map_read (with_prefix prefix) (operand_at budget cursor.old)) stack.old stack.new
+        cursor.new }
 {
     operand(alloc, stack, cursor, budget)?;
     apply_prefix(stack, prefix)?;

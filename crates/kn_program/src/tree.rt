@@ -1,7 +1,7 @@
 //! Expressions by their parts, on the stack.
 ghost use Rattle.std.specs.Prelude.{◌≡◌, ◌<◌, ◌≤◌, [], ◌∷◌, ◌++◌, length, OnOk, List};
 ghost use Rattle.kn_trees.specs.declared.program.Expr.{Expr};
-ghost use Rattle.kn_program.specs.Trees.{several, prefixed};
+ghost use Rattle.kn_program.specs.Trees.{several, with_prefix};
 
 use crate::signs::{Joint, Prefix};
 use kn_base::NoMemory;
@@ -24,7 +24,7 @@ pub(crate) fn join_tests(stack: &mut ExprStack, joint: Joint, count: usize) -> R
 pub(crate) fn apply_prefix(stack: &mut ExprStack, prefix: Prefix) -> Result<(), NoMemory>
     requires some { 0 < length stack.old }
     ensures { (front : List Expr) (part : Expr) → stack.old ≡ front ++ part ∷ []
-        → OnOk result (stack.new ≡ front ++ prefixed prefix part ∷ []) }
+        → OnOk result (stack.new ≡ front ++ with_prefix prefix part ∷ []) }
 {
     match prefix {
         Prefix::Minus => stack.apply_minus(),

@@ -118,7 +118,7 @@ fn read_rows(alloc: Global, header: Header, lines: &[u8]) -> Result<ReadReply, P
     let mut rest = lines;
     'rows: loop {
         if let Some(after) = behind(rest, b"END\n") {
-            return ended(header, rows, after);
+            return end_reply(header, rows, after);
         }
         match read_row(alloc, rows.len() as usize + 2, rest) {
             Ok(line) => {
@@ -134,7 +134,7 @@ fn read_rows(alloc: Global, header: Header, lines: &[u8]) -> Result<ReadReply, P
 }
 
 /// The reply of these rows, behind whose line `END` this stands.
-fn ended(header: Header, rows: List<NamedRow>, after: &[u8]) -> Result<ReadReply, ProofFault>
+fn end_reply(header: Header, rows: List<NamedRow>, after: &[u8]) -> Result<ReadReply, ProofFault>
     ensures same_rows { IfOk result (λ reply. reply.rows ≡ rows) }
     ensures of_header { IfOk result (λ reply. IsOfHeader header reply) }
     ensures nothing { IfOk result (λ reply. after.now ≡ []) }

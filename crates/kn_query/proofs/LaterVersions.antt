@@ -14,7 +14,7 @@ use Rattle.kn_history.specs.declared.update.Change.TheVariants.{Add, Remove}
 use Rattle.kn_history.specs.declared.update.Numbered.{Numbered}
 use Rattle.kn_history.specs.declared.update.Update.{Update}
 use Rattle.kn_history.specs.History.{NumberedText, added_count, additions, all_changes, credentials_of, is_removal_of}
-use Rattle.kn_history.specs.History.{kept, live}
+use Rattle.kn_history.specs.History.{kept_credential, live}
 use Rattle.kn_history.specs.History.{all_may_follow, is_valid_history, is_well_numbered, may_follow, refusal_of}
 use Rattle.kn_history.specs.History.{update_may_follow, updates_may_follow}
 use Rattle.kn_query.specs.Following.{AreAbove, AreUpTo, is_removed_by, without_removed}
@@ -22,7 +22,7 @@ use Rattle.kn_query.specs.Following.{AreAbove, AreUpTo, is_removed_by, without_r
 -- What later changes make of the credentials.
 
 kept-later : (change : Change) (id : ℕ) (later changes : List Numbered)
-    → kept change id (later ++ changes) ≡ without_removed changes (kept change id later)
+    → kept_credential change id (later ++ changes) ≡ without_removed changes (kept_credential change id later)
 kept-later (Add text) id later changes =
     ap (λ t. cond t [] (record { id = id; text = text } ∷ []))
     (list_any-append (λ c. is_removal_of id c.change c.id) later changes)
@@ -47,11 +47,12 @@ pub live-later : (past changes : List Numbered) → live (past ++ changes) ≡ w
 live-later [] changes = refl
 live-later (c ∷ past) changes =
     ap (λ first. first ++ live (past ++ changes)) (kept-later c.change c.id past changes)
-    ∙ ap (λ rest. without_removed changes (kept c.change c.id past) ++ rest) (live-later past changes)
-    ∙ sym (append_assoc (without_removed changes (kept c.change c.id past)) (without_removed changes (live past))
+    ∙ ap (λ rest. without_removed changes (kept_credential c.change c.id past) ++ rest) (live-later past changes)
+    ∙ sym (append_assoc (without_removed changes (kept_credential c.change c.id past))
+    (without_removed changes (live past))
     (live changes))
     ∙ ap (λ l. l ++ live changes)
-    (sym (filter-append (λ c. not (is_removed_by changes c.id)) (kept c.change c.id past) (live past)))
+    (sym (filter-append (λ c. not (is_removed_by changes c.id)) (kept_credential c.change c.id past) (live past)))
 
 changes-split : (version : List Update) (n : ℕ)
     → all_changes version ≡ all_changes (take n version) ++ all_changes (drop n version)
@@ -153,7 +154,7 @@ one-above low id text true less = tt
 one-above low id text false less = (less, tt)
 
 kept-above : (past later : List Numbered) (change : Change) (id : ℕ) → is_well_numbered past change id ≡ true
-    → AreAbove (additions past) (kept change id later)
+    → AreAbove (additions past) (kept_credential change id later)
 kept-above past later (Add text) id well =
     let same : id ≡ additions past + 1 = (Decides-eqb id (additions past + 1)).0 (and_parts _ _ well).0 in
     one-above (additions past) id text (list_any (λ c. is_removal_of id c.change c.id) later) (omega (arith, same))
@@ -167,7 +168,7 @@ added-above past (c ∷ changes) follow =
     let well = (and_parts (is_none (refusal_of past c.change c.id)) (is_well_numbered past c.change c.id) parts.0).1 in
     let more : additions (past ++ c ∷ []) ≡ additions past + added_count c.change =
     sum_by_push (λ (n : Numbered). added_count n.change) past c in
-    all-both (λ x. additions past < x.id) (kept c.change c.id changes) (live changes)
+    all-both (λ x. additions past < x.id) (kept_credential c.change c.id changes) (live changes)
     (kept-above past changes c.change c.id well)
     (above-lower (additions past) (additions (past ++ c ∷ [])) (live changes) (omega (arith, more))
     (added-above (past ++ c ∷ []) changes parts.1))
@@ -189,7 +190,7 @@ one-up_to most id text false le = (le, tt)
 
 kept-up_to : (past later : List Numbered) (change : Change) (id most : ℕ) → is_well_numbered past change id ≡ true
     → additions past + added_count change ≤ most
-    → AreUpTo most (kept change id later)
+    → AreUpTo most (kept_credential change id later)
 kept-up_to past later (Add text) id most well le =
     let same : id ≡ additions past + 1 = (Decides-eqb id (additions past + 1)).0 (and_parts _ _ well).0 in
     one-up_to most id text (list_any (λ c. is_removal_of id c.change c.id) later) (omega (arith, same, le))
@@ -205,7 +206,7 @@ added-up_to past (c ∷ changes) follow =
     sum_by-append (λ (n : Numbered). added_count n.change) past (c ∷ changes) in
     let one : additions (c ∷ changes) ≡ added_count c.change + additions changes =
     sum_by-cons (λ (n : Numbered). added_count n.change) c changes in
-    all-both (λ x. x.id ≤ additions (past ++ c ∷ changes)) (kept c.change c.id changes) (live changes)
+    all-both (λ x. x.id ≤ additions (past ++ c ∷ changes)) (kept_credential c.change c.id changes) (live changes)
     (kept-up_to past changes c.change c.id (additions (past ++ c ∷ changes)) well (omega (arith, whole, one)))
     (subst (λ l. AreUpTo (additions l) (live changes)) (append_assoc past (c ∷ []) changes)
     (added-up_to (past ++ c ∷ []) changes parts.1))

@@ -1,7 +1,7 @@
 //! A reader and a writer of the system as one link.
 ghost use Rattle.std.specs.Prelude.{◌≡◌, ◌≤◌, ◌<◌, drop, length, IfOk, OnOk, OnErr};
 ghost use Rattle.std.specs.Io.KnownBytes.{ReadConsumes, WriteAppends};
-ghost use Rattle.kn_outside.specs.Faults.{raised};
+ghost use Rattle.kn_outside.specs.Faults.{count_up};
 
 use crate::retry::{LINK_CHUNK_BYTES, read_into};
 use crate::std_out::StdOut;
@@ -41,7 +41,7 @@ impl<I: Read, O: Write> Sink for StdLink<I, O> {
         ensures bytes { WriteAppends
             (O.contents self.old.out.output) (O.contents self.new.out.output) result piece.now }
         ensures ok { OnOk result (self.new.out.faults ≡ self.old.out.faults) }
-        ensures err { OnErr result (self.new.out.faults ≡ raised self.old.out.faults) }
+        ensures err { OnErr result (self.new.out.faults ≡ count_up self.old.out.faults) }
         ensures input { self.new.input ≡ self.old.input }
         ensures later { self.old.out.faults ≤ self.new.out.faults }
     {
@@ -56,7 +56,7 @@ impl<I: Read, O: Write> Link for StdLink<I, O> {
         ensures bytes { ReadConsumes (I.remaining self.old.input) (I.remaining self.new.input) result buf.new }
         ensures ok { OnOk result (self.new.out.faults ≡ self.old.out.faults) }
         ensures behind { IfOk result (λ n. drop n buf.new ≡ drop n buf.old) }
-        ensures err { OnErr result (self.new.out.faults ≡ raised self.old.out.faults) }
+        ensures err { OnErr result (self.new.out.faults ≡ count_up self.old.out.faults) }
         ensures buffer { OnErr result (buf.new ≡ buf.old) }
         ensures output { self.new.out.output ≡ self.old.out.output }
         ensures later { self.old.out.faults ≤ self.new.out.faults }

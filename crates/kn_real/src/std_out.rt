@@ -1,7 +1,7 @@
 //! A writer of the system as a sink.
 ghost use Rattle.std.specs.Prelude.{◌≡◌, ◌≤◌, ◌<◌, length, IfOk, OnOk, OnErr};
 ghost use Rattle.std.specs.Io.KnownBytes.{WriteAppends};
-ghost use Rattle.kn_outside.specs.Faults.{raised};
+ghost use Rattle.kn_outside.specs.Faults.{count_up};
 
 use crate::retry::write_some;
 use kn_outside::{Failed, Sink};
@@ -33,7 +33,7 @@ impl<O: Write> Sink for StdOut<O> {
         ensures count { IfOk result (λ n. (0 < n) × (n ≤ length piece.now)) }
         ensures bytes { WriteAppends (O.contents self.old.output) (O.contents self.new.output) result piece.now }
         ensures ok { OnOk result (self.new.faults ≡ self.old.faults) }
-        ensures err { OnErr result (self.new.faults ≡ raised self.old.faults) }
+        ensures err { OnErr result (self.new.faults ≡ count_up self.old.faults) }
         ensures later { self.old.faults ≤ self.new.faults }
     {
         match write_some(&mut self.output, piece) {

@@ -1,6 +1,6 @@
 //! A stream of the system, which is read and written, as a link.
 ghost use Rattle.std.specs.Prelude.{◌≡◌, ◌≤◌, ◌<◌, drop, length, IfOk, OnOk, OnErr};
-ghost use Rattle.kn_outside.specs.Faults.{raised};
+ghost use Rattle.kn_outside.specs.Faults.{count_up};
 
 use crate::gathered::Gathered;
 use crate::retry::{LINK_CHUNK_BYTES, read_into};
@@ -71,7 +71,7 @@ impl Sink for TcpLink {
     fn write(&mut self, piece: &[u8]) -> Result<usize, Failed>
         ensures count { IfOk result (λ n. (0 < n) × (n ≤ length piece.now)) }
         ensures ok { OnOk result (self.new.faults ≡ self.old.faults) }
-        ensures err { OnErr result (self.new.faults ≡ raised self.old.faults) }
+        ensures err { OnErr result (self.new.faults ≡ count_up self.old.faults) }
         ensures later { self.old.faults ≤ self.new.faults }
     {
         match self.gathered.write(&mut self.stream, piece) {
@@ -90,7 +90,7 @@ impl Link for TcpLink {
         ensures count { IfOk result (λ n. n ≤ length buf.new) }
         ensures ok { OnOk result (self.new.faults ≡ self.old.faults) }
         ensures behind { IfOk result (λ n. drop n buf.new ≡ drop n buf.old) }
-        ensures err { OnErr result (self.new.faults ≡ raised self.old.faults) }
+        ensures err { OnErr result (self.new.faults ≡ count_up self.old.faults) }
         ensures buffer { OnErr result (buf.new ≡ buf.old) }
         ensures later { self.old.faults ≤ self.new.faults }
     {

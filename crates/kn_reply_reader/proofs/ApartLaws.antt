@@ -8,7 +8,7 @@ use Rattle.kn_base.proofs.Numerals.{digits_lack}
 use Rattle.kn_proof.specs.Lines.{IsLine}
 use Rattle.kn_reply.specs.Replies.{Reply, Done, Started, Number, PrivateAdded, Added, Value, Batched, PinnedAt, Log}
 use Rattle.kn_reply.specs.Replies.{News, Critical, No, NoMemory, reply_text}
-use Rattle.kn_reply_reader.specs.Forms.{filled, IsOfOneForm}
+use Rattle.kn_reply_reader.specs.Forms.{fill_form, IsOfOneForm}
 use Rattle.kn_reply_reader.specs.OneLineForms.{one_line_forms}
 use Rattle.kn_reply_reader.specs.Kinds.{Kind, OneLine, Proved, LogKind, NewsKind, CriticalKind, kind_of, IsTextOf}
 use Rattle.kn_reply_reader.specs.Apart.{RepliesAreApart}
@@ -30,8 +30,8 @@ abbrev are_line_forms : List (List ℕ) → Bool
 are_line_forms [] = true
 are_line_forms (form ∷ forms) = is_line_form form && are_line_forms forms
 
-line_more : (b : ℕ) (form ns : List ℕ) → b ≢ 10 → ((ms : List ℕ) → IsLine (filled form ms))
-    → IsLine (filled (b ∷ form) ns)
+line_more : (b : ℕ) (form ns : List ℕ) → b ≢ 10 → ((ms : List ℕ) → IsLine (fill_form form ms))
+    → IsLine (fill_form (b ∷ form) ns)
 line_more b form ns other line = elim (cases_eq b 35) [
   | inl hash ↦
       let rest = line (drop 1 ns) in
@@ -54,7 +54,7 @@ line_more b form ns other line = elim (cases_eq b 35) [
       }
 ]
 
-filled_line : (form ns : List ℕ) → is_line_form form ≡ true → IsLine (filled form ns)
+filled_line : (form ns : List ℕ) → is_line_form form ≡ true → IsLine (fill_form form ns)
 filled_line [] ns is = absurd (false≢true is)
 filled_line (b ∷ []) ns is =
     let same = eqb-true b 10 is in

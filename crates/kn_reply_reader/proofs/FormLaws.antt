@@ -8,21 +8,23 @@ use Rattle.std.proofs.lemmas.List.{drop_more, drop_all, drop-map, length-map}
 use Rattle.kn_base.specs.Decimal.{is_digit}
 use Rattle.kn_reply_reader.specs.Numerals.{IsBehindNumber, begins_with_digit}
 use Rattle.kn_reply_reader.specs.Fronts.{IsBehindOne, AreApart}
-use Rattle.kn_reply_reader.specs.Forms.{filled, IsOfForm, IsOfOneForm, ends_number, is_form, are_forms}
+use Rattle.kn_reply_reader.specs.Forms.{fill_form, IsOfForm, IsOfOneForm, ends_number, is_form, are_forms}
 use Rattle.kn_reply_reader.proofs.Written.{number_once}
 
 -- the two cases of a part
 pub filled_number : (b : ℕ) (form ns : List ℕ) → b ≡ 35
-    → filled (b ∷ form) ns ≡ decimal (get_or ns 0 0) ++ filled form (drop 1 ns)
+    → fill_form (b ∷ form) ns ≡ decimal (get_or ns 0 0) ++ fill_form form (drop 1 ns)
 filled_number b form ns hash =
-    cond-true (b == 35) (decimal (get_or ns 0 0) ++ filled form (drop 1 ns)) (b ∷ filled form ns) (eq-eqb b 35 hash)
+    cond-true (b == 35) (decimal (get_or ns 0 0) ++ fill_form form (drop 1 ns)) (b ∷ fill_form form ns)
+    (eq-eqb b 35 hash)
 
-pub filled_byte : (b : ℕ) (form ns : List ℕ) → b ≢ 35 → filled (b ∷ form) ns ≡ b ∷ filled form ns
+pub filled_byte : (b : ℕ) (form ns : List ℕ) → b ≢ 35 → fill_form (b ∷ form) ns ≡ b ∷ fill_form form ns
 filled_byte b form ns other =
-    cond-false (b == 35) (decimal (get_or ns 0 0) ++ filled form (drop 1 ns)) (b ∷ filled form ns) (ne_eqb b 35 other)
+    cond-false (b == 35) (decimal (get_or ns 0 0) ++ fill_form form (drop 1 ns)) (b ∷ fill_form form ns)
+    (ne_eqb b 35 other)
 
 -- no digit follows a number of a form
-no_digit : (form ns r : List ℕ) → ends_number form ≡ true → begins_with_digit (filled form ns ++ r) ≡ false
+no_digit : (form ns r : List ℕ) → ends_number form ≡ true → begins_with_digit (fill_form form ns ++ r) ≡ false
 no_digit [] ns r e = absurd (false≢true e)
 no_digit (b ∷ form) ns r e =
     let parts = or_parts (is_digit b) (b == 35) (not-true (is_digit b || b == 35) e) in
@@ -39,15 +41,15 @@ number_ends b form hash e =
 pub rest_form : (b : ℕ) (form : List ℕ) → is_form (b ∷ form) ≡ true → is_form form ≡ true
 rest_form b form e = (and_parts (not (b == 35) || ends_number form) (is_form form) e).1
 
-filled_once : (form ns ms r s : List ℕ) → is_form form ≡ true → filled form ns ++ r ≡ filled form ms ++ s
-    → (filled form ns ≡ filled form ms) × (r ≡ s)
+filled_once : (form ns ms r s : List ℕ) → is_form form ≡ true → fill_form form ns ++ r ≡ fill_form form ms ++ s
+    → (fill_form form ns ≡ fill_form form ms) × (r ≡ s)
 filled_once [] ns ms r s is e = (refl, e)
 filled_once (b ∷ form) ns ms r s is e = elim (cases_eq b 35) [
   | inl hash ↦
       let n = get_or ns 0 0 in
       let m = get_or ms 0 0 in
-      let f = filled form (drop 1 ns) in
-      let g = filled form (drop 1 ms) in
+      let f = fill_form form (drop 1 ns) in
+      let g = fill_form form (drop 1 ms) in
       let ends = number_ends b form hash is in
       let first = number_once n m (f ++ r) (g ++ s) (no_digit form (drop 1 ns) r ends)
       (no_digit form (drop 1 ms) s ends)
@@ -59,10 +61,10 @@ filled_once (b ∷ form) ns ms r s is e = elim (cases_eq b 35) [
         rest.1,
       )
   | inr other ↦
-      let whole : b ∷ (filled form ns ++ r) ≡ b ∷ (filled form ms ++ s) =
+      let whole : b ∷ (fill_form form ns ++ r) ≡ b ∷ (fill_form form ms ++ s) =
       ap (λ (l : List ℕ). l ++ r) (sym (filled_byte b form ns other)) ∙ e
       ∙ ap (λ (l : List ℕ). l ++ s) (filled_byte b form ms other) in
-      let tail : filled form ns ++ r ≡ filled form ms ++ s = cc in
+      let tail : fill_form form ns ++ r ≡ fill_form form ms ++ s = cc in
       let rest = filled_once form ns ms r s (rest_form b form is) tail in
       (filled_byte b form ns other ∙ ap (λ (l : List ℕ). b ∷ l) rest.0 ∙ sym (filled_byte b form ms other), rest.1)
 ]
@@ -79,11 +81,11 @@ number_more : (b : ℕ) (form left rest : List ℕ) (found : Option (List ℕ)) 
     → IsBehindNumber left (Some rest)
     → IsBehindOne (IsOfForm form) rest found → IsBehindOne (IsOfForm (b ∷ form)) left found
 number_more b form left rest None hash is first none = λ text more has e.
-    let same = number_once first.0 (get_or has.0 0 0) rest (filled form (drop 1 has.0) ++ more) first.2
+    let same = number_once first.0 (get_or has.0 0 0) rest (fill_form form (drop 1 has.0) ++ more) first.2
     (no_digit form (drop 1 has.0) more (number_ends b form hash is))
     (sym first.1 ∙ e ∙ ap (λ (l : List ℕ). l ++ more) (has.1 ∙ filled_number b form has.0 hash)
-    ∙ append_assoc (decimal (get_or has.0 0 0)) (filled form (drop 1 has.0)) more) in
-    none (filled form (drop 1 has.0)) more (drop 1 has.0, refl) same.1
+    ∙ append_assoc (decimal (get_or has.0 0 0)) (fill_form form (drop 1 has.0)) more) in
+    none (fill_form form (drop 1 has.0)) more (drop 1 has.0, refl) same.1
 number_more b form left rest (Some more) hash is first next = (
   decimal first.0 ++ next.0,
   (
@@ -97,20 +99,20 @@ number_more b form left rest (Some more) hash is first next = (
 number_none : (b : ℕ) (form left : List ℕ) → b ≡ 35 → is_form (b ∷ form) ≡ true → IsBehindNumber left None
     → IsBehindOne (IsOfForm (b ∷ form)) left None
 number_none b form left hash is none = λ text more has e.
-    none (get_or has.0 0 0) (filled form (drop 1 has.0) ++ more)
+    none (get_or has.0 0 0) (fill_form form (drop 1 has.0) ++ more)
     (no_digit form (drop 1 has.0) more (number_ends b form hash is))
     (e ∙ ap (λ (l : List ℕ). l ++ more) (has.1 ∙ filled_number b form has.0 hash)
-    ∙ append_assoc (decimal (get_or has.0 0 0)) (filled form (drop 1 has.0)) more)
+    ∙ append_assoc (decimal (get_or has.0 0 0)) (fill_form form (drop 1 has.0)) more)
 
 byte_more : (b : ℕ) (form left rest : List ℕ) (found : Option (List ℕ)) → b ≢ 35
     → IsBehindOne (λ text. text ≡ b ∷ []) left (Some rest)
     → IsBehindOne (IsOfForm form) rest found → IsBehindOne (IsOfForm (b ∷ form)) left found
 byte_more b form left rest None other first none = λ text more has e.
     let here : left ≡ b ∷ rest = first.2 ∙ ap (λ (l : List ℕ). l ++ rest) first.1 in
-    let whole : b ∷ rest ≡ b ∷ (filled form has.0 ++ more) = sym here ∙ e
+    let whole : b ∷ rest ≡ b ∷ (fill_form form has.0 ++ more) = sym here ∙ e
     ∙ ap (λ (l : List ℕ). l ++ more) (has.1 ∙ filled_byte b form has.0 other) in
-    let tail : rest ≡ filled form has.0 ++ more = cc in
-    none (filled form has.0) more (has.0, refl) tail
+    let tail : rest ≡ fill_form form has.0 ++ more = cc in
+    none (fill_form form has.0) more (has.0, refl) tail
 byte_more b form left rest (Some more) other first next = (
   b ∷ next.0,
   (next.1.0, ap (λ (l : List ℕ). b ∷ l) next.1.1 ∙ sym (filled_byte b form next.1.0 other)),
@@ -120,7 +122,7 @@ byte_more b form left rest (Some more) other first next = (
 byte_none : (b : ℕ) (form left : List ℕ) → b ≢ 35 → IsBehindOne (λ text. text ≡ b ∷ []) left None
     → IsBehindOne (IsOfForm (b ∷ form)) left None
 byte_none b form left other none = λ text more has e.
-    none (b ∷ []) (filled form has.0 ++ more) refl (e
+    none (b ∷ []) (fill_form form has.0 ++ more) refl (e
     ∙ ap (λ (l : List ℕ). l ++ more) (has.1 ∙ filled_byte b form has.0 other))
 
 -- what is behind the rest of a form that begins with this part, where this is behind the part

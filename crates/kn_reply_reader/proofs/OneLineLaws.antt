@@ -12,7 +12,7 @@ use Rattle.kn_reply.specs.declared.refusal.LimitWord.TheVariants as W
 use Rattle.kn_reply.specs.Replies.{Reply, Done, Started, Number, PrivateAdded, Added, Value, Batched, PinnedAt, Log}
 use Rattle.kn_reply.specs.Replies.{News, Critical, No, NoMemory, reply_text}
 use Rattle.kn_reply_reader.specs.Texts.{HasText}
-use Rattle.kn_reply_reader.specs.Forms.{filled, IsOfOneForm}
+use Rattle.kn_reply_reader.specs.Forms.{fill_form, IsOfOneForm}
 use Rattle.kn_reply_reader.specs.OneLineForms.{one_line_forms}
 use Rattle.kn_reply_reader.specs.Kinds.{OneLine, IsTextOf, kind_of}
 
@@ -38,7 +38,7 @@ pub record IsTold (form ns : List ℕ) : Type 0 where
   pub reply : Reply
   pub text : HasText reply
   pub one : kind_of reply ≡ OneLine
-  pub same : filled form ns ≡ reply_text reply
+  pub same : fill_form form ns ≡ reply_text reply
 
 abbrev AreTold : List ℕ → Type 0
 AreTold form = (ns : List ℕ) → IsTold form ns
@@ -253,7 +253,7 @@ entries =
     ∷ []
 
 told_in : (known : List Entry) (text : List ℕ) → IsOfOneForm (map form_of known) text → (form : List ℕ) × (ns : List ℕ)
-    × IsTold form ns × (text ≡ filled form ns)
+    × IsTold form ns × (text ≡ fill_form form ns)
 told_in [] text is = absurd is
 told_in (e ∷ others) text (inl is) = (e.form, is.0, e.exact is.0, is.1)
 told_in (e ∷ others) text (inr is) = told_in others text is
@@ -265,14 +265,14 @@ one_line_from text is =
 
 -- the form at a place
 at_place : (forms : List (List ℕ)) (k : ℕ) (form ns text : List ℕ) → slice_get forms k ≡ Some form
-    → text ≡ filled form ns → IsOfOneForm forms text
+    → text ≡ fill_form form ns → IsOfOneForm forms text
 at_place [] k form ns text there same = absurd (none-some form there)
 at_place (f ∷ forms) zero form ns text there same =
-    inl (ns, same ∙ ap (λ (g : List ℕ). filled g ns) (sym (same_Some f form there)))
+    inl (ns, same ∙ ap (λ (g : List ℕ). fill_form g ns) (sym (same_Some f form there)))
 at_place (f ∷ forms) (suc k) form ns text there same = inr (at_place forms k form ns text there same)
 
 at : (k : ℕ) (form ns : List ℕ) (reply : Reply) → slice_get one_line_forms k ≡ Some form
-    → reply_text reply ≡ filled form ns
+    → reply_text reply ≡ fill_form form ns
     → IsOfOneForm one_line_forms (reply_text reply)
 at k form ns reply there same = at_place one_line_forms k form ns (reply_text reply) there same
 

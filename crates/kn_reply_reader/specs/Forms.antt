@@ -4,14 +4,14 @@ use Rattle.std.specs.Prelude.{slice_index, decimal, if◌then◌else◌}
 use Rattle.kn_base.specs.Decimal.{is_digit}
 
 -- the form with these numbers in their places
-abbrev pub filled : List ℕ → List ℕ → List ℕ
-filled [] numbers = []
-filled (b ∷ form) numbers =
-    if b == 35 then decimal (slice_index numbers 0) ++ filled form (drop 1 numbers) else b ∷ filled form numbers
+abbrev pub fill_form : List ℕ → List ℕ → List ℕ
+fill_form [] numbers = []
+fill_form (b ∷ form) numbers =
+    if b == 35 then decimal (slice_index numbers 0) ++ fill_form form (drop 1 numbers) else b ∷ fill_form form numbers
 
 -- the text has the form
 abbrev pub IsOfForm : List ℕ → List ℕ → Type 0
-IsOfForm form text = (numbers : List ℕ) × (text ≡ filled form numbers)
+IsOfForm form text = (numbers : List ℕ) × (text ≡ fill_form form numbers)
 
 -- it has one of these
 abbrev pub IsOfOneForm : List (List ℕ) → List ℕ → Type 0

@@ -9,7 +9,7 @@ use Rattle.kn_history.specs.declared.update.Update.{Update}
 use Rattle.kn_history.specs.History.{is_valid_history}
 use Rattle.kn_wire.specs.declared.fault.WireFault.TheVariants as F
 use Rattle.kn_wire.specs.Requests.{Request, Bye, Faulty}
-use Rattle.kn_wire.specs.Feeding.{Held, Bytes, held_bytes, pushed, next_of}
+use Rattle.kn_wire.specs.Feeding.{Held, Bytes, held_bytes, with_piece, next_of}
 use Rattle.kn_reply.specs.Replies.{reply_text}
 use Rattle.kn_daemon.specs.declared.ended.Ended.{Ended}
 use Rattle.kn_daemon.specs.declared.ended.Ended.TheVariants as E
@@ -68,7 +68,7 @@ module _ (g : DaemonConfig) (u : PassSeen) (l : LinkSeen) (m : Moment) (h : Held
       (subst (λ (x : Moment). Serving g u l x h answered) (sym same) s)
 
   -- one more piece was read
-  pub serving_reads : TakesPiece → (l'' : LinkSeen) (h' : Held) (piece : List ℕ) → h' ≡ pushed h piece →
+  pub serving_reads : TakesPiece → (l'' : LinkSeen) (h' : Held) (piece : List ℕ) → h' ≡ with_piece h piece →
       Reads piece m.link l'' → Serving g u l (in_state m.state m.pass l'') h' answered
   serving_reads law l'' h' piece held reads =
       let underway : Held → Type 0 =

@@ -5,10 +5,10 @@ use Rattle.kn_base.specs.declared.limits.TheConstants.{REQUESTS}
 use Rattle.kn_outside.specs.Seen.{LinkSeen}
 use Rattle.kn_outside.specs.SpecifiedBytes.{more, before}
 use Rattle.kn_outside.specs.Reading.{Reads, Fails}
-use Rattle.kn_outside.specs.Faults.{Rose, raised}
+use Rattle.kn_outside.specs.Faults.{Rose, count_up}
 use Rattle.kn_history.specs.declared.update.Update.{Update}
 use Rattle.kn_wire.specs.Requests.{Request, Bye, Takes}
-use Rattle.kn_wire.specs.Feeding.{Held, pushed}
+use Rattle.kn_wire.specs.Feeding.{Held, with_piece}
 use Rattle.kn_daemon.specs.declared.ended.Ended.{Ended}
 use Rattle.kn_daemon.specs.declared.ended.Ended.TheVariants as E
 use Rattle.kn_daemon.specs.Daemon.{DaemonConfig}
@@ -26,7 +26,7 @@ is_over (Some left) = length left == 0
 
 -- more bytes were read, one at least, and are held, or a read failed, or the input has ended
 abbrev pub Fills : Held → Held → LinkSeen → LinkSeen → Fill → Type 0
-Fills h h' l l' More = (piece : List ℕ) × (h' ≡ pushed h piece) × Reads piece l l' × (piece ≢ [])
+Fills h h' l l' More = (piece : List ℕ) × (h' ≡ with_piece h piece) × Reads piece l l' × (piece ≢ [])
 Fills h h' l l' Failed = (h' ≡ h) × Fails l l' × (l.faults ≤ l'.faults)
 Fills h h' l l' End = (h' ≡ h) × Reads [] l l' × (is_over l'.left ≡ true)
 
@@ -91,4 +91,4 @@ pub record IsOrderly (input : List ℕ) : Type 0 where
 
 -- no call of the link failed: the count of faults didn't rise, and doesn't stand at its greatest
 abbrev pub IsFaultless : LinkSeen → LinkSeen → Type 0
-IsFaultless l l' = l'.faults < raised l.faults
+IsFaultless l l' = l'.faults < count_up l.faults

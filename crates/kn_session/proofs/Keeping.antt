@@ -18,7 +18,7 @@ use Rattle.kn_session.specs.declared.fault.SessionFault.{SessionFault}
 use Rattle.kn_session.specs.declared.fault.SessionFault.TheVariants as F
 use Rattle.kn_session.specs.declared.view.Private.{Private}
 use Rattle.kn_session.specs.Sessions.{Session, fault_if, started_session}
-use Rattle.kn_session.specs.Calls.{private_fault, private_bytes, auth_fault, is_principal, is_named, cleared}
+use Rattle.kn_session.specs.Calls.{private_fault, private_bytes, auth_fault, is_principal, is_named, clear_session}
 use Rattle.kn_session.specs.Views.{numbered_text, ids_of, IsReadPrivate, ArePrivates, AreNormalForms, IsSession, IsKept}
 use Rattle.kn_session.proofs.Closing.{next_is_new, AllByRecursion-remove, AllByRecursion-weaker, IsDistinct-push}
 use Rattle.kn_session.proofs.Closing.{IsDistinct-remove, map-remove}
@@ -96,7 +96,7 @@ kept_new number past = record {
   session = record { privates = no_privates; made = tt; requesters = AreRequesters-none; forms = no_forms };
 }
 
-pub kept_cleared : (ps : List Private) (n : ℕ) (x : Session) → IsKept ps n x → IsKept ps n (cleared x)
+pub kept_cleared : (ps : List Private) (n : ℕ) (x : Session) → IsKept ps n x → IsKept ps n (clear_session x)
 kept_cleared ps n x kept = record {
   readings = kept.readings;
   bytes = kept.bytes;

@@ -100,8 +100,8 @@ add_requester text x =
 abbrev pub take_requester : List ℕ → Session → Session
 take_requester text x = record x { requesters = filter (λ r. not (bytes_eq (normal_form text) r)) x.requesters }
 
-abbrev pub cleared : Session → Session
-cleared x = record x { attributes = []; requesters = [] }
+abbrev pub clear_session : Session → Session
+clear_session x = record x { attributes = []; requesters = [] }
 
 -- Calls by one form.
 
@@ -162,7 +162,7 @@ call_fault_in s (Some session) call = call_fault call session
 -- what an accepted call makes of its session, where that stays open
 abbrev pub call_change : Call → Session → Session
 call_change Close session = session
-call_change Clear session = cleared session
+call_change Clear session = clear_session session
 call_change (Assert text) session = add_private text session
 call_change (Retract k) session = take_private k session
 call_change (Set name value) session = set_attribute name value session

@@ -9,7 +9,7 @@ ghost use Rattle.kn_session.specs.Sessions.{started_session, pin_at};
 ghost use Rattle.kn_session.specs.Sessions.{standing_fault, watch_with, query_at, move_standing, end_standing};
 ghost use Rattle.kn_session.specs.Asking.{IsLevelIfKnown, IsQueryLevelIfKnown};
 ghost use Rattle.kn_session.specs.Calls.{private_fault, retract_fault, set_fault, unset_fault, auth_fault};
-ghost use Rattle.kn_session.specs.Calls.{unauth_fault, fault_of_attribute, is_principal, is_named, cleared};
+ghost use Rattle.kn_session.specs.Calls.{unauth_fault, fault_of_attribute, is_principal, is_named, clear_session};
 ghost use Rattle.kn_session.specs.Calls.{add_private, take_private, set_attribute, unset_attribute};
 ghost use Rattle.kn_session.specs.Calls.{add_requester, take_requester};
 ghost use Rattle.kn_session.specs.declared.fault.SessionFault.TheVariants as F;
@@ -171,7 +171,7 @@ impl OpenSession {
 
     /// Takes all attributes and requesters away.
     pub(crate) fn clear(&mut self, alloc: Global)
-        ensures { self.new ≡ cleared self.old }
+        ensures { self.new ≡ clear_session self.old }
     {
         self.attributes.clear();
         self.requesters = List::new(alloc);

@@ -11,7 +11,7 @@ ghost use Rattle.kn_session.specs.Asking.{IsLevelIfKnown, IsQueryLevelIfKnown};
 ghost use Rattle.kn_session.specs.Laws.{standing_in};
 ghost use Rattle.kn_session.specs.Calls.{private_fault, retract_fault, set_fault, unset_fault, auth_fault};
 ghost use Rattle.kn_session.specs.Calls.{unauth_fault, add_private, take_private, set_attribute, unset_attribute};
-ghost use Rattle.kn_session.specs.Calls.{add_requester, take_requester, cleared, answer_done};
+ghost use Rattle.kn_session.specs.Calls.{add_requester, take_requester, clear_session, answer_done};
 ghost use Rattle.kn_session.specs.OnePlace.{IsOneAt};
 ghost use Rattle.kn_session.specs.declared.fault.SessionFault.{SessionFault};
 ghost use Rattle.kn_session.specs.declared.fault.SessionFault.TheVariants as F;
@@ -166,7 +166,7 @@ impl Sessions {
     /// memory.
     fn clear(&mut self, s: u32) -> Result<(), SessionFault>
         ensures accepted { OnOk result (fault_at self.old s (λ x. None) ≡ None) }
-        ensures ok { OnOk result (self.new ≡ with_open_session self.old s cleared) }
+        ensures ok { OnOk result (self.new ≡ with_open_session self.old s clear_session) }
         ensures err { OnErr result (self.new ≡ self.old) }
         ensures fault { IfErr result (λ fault. fault_at self.old s (λ x. None) ≡ Some fault) }
     {

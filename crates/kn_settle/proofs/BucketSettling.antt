@@ -5,7 +5,7 @@ use Rattle.std.proofs.lemmas.Bool.{cases_eq, cases_lt, false≢true}
 use Rattle.std.proofs.lemmas.List.{get_or_default, get_or-set_same, get_or-set_other, get_or_past}
 use Rattle.std.proofs.lemmas.Option.{slice_get_cases}
 use Rattle.kn_system.specs.Equations.{SystemEquations, node_total, row_at}
-use Rattle.kn_system.specs.Settled.{unsettled}
+use Rattle.kn_system.specs.Settled.{count_unsettled}
 use Rattle.kn_settle.specs.Counters.{AreLonger, IsCounting, IsUsed, bucket_at}
 use Rattle.kn_settle.proofs.OneMoreNode.{trues-le}
 use Rattle.kn_settle.proofs.MarkedRows.{waits-down}
@@ -18,7 +18,7 @@ Continues s v levels counts buckets steps levels_now counts_now buckets_now step
     → (after : List Bool) × IsUsed s after levels_now start steps_now
     × IsCounting s v levels_now after counts_now buckets_now
 
-pub unsettled-le : (levels : List ℕ) → unsettled levels ≤ length levels
+pub unsettled-le : (levels : List ℕ) → count_unsettled levels ≤ length levels
 unsettled-le [] = omega arith
 unsettled-le (zero ∷ levels) = let rest = unsettled-le levels in omega arith
 unsettled-le (suc level ∷ levels) = let rest = unsettled-le levels in omega arith

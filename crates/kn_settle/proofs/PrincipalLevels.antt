@@ -7,13 +7,13 @@ use Rattle.std.proofs.lemmas.List.{get_or-set_same, get_or-set_other}
 use Rattle.kn_system.specs.declared.rows.Piece.TheVariants.{Who}
 use Rattle.kn_system.specs.Equations.{SystemEquations, row_at}
 use Rattle.kn_system.specs.Nodes.{pieces_of, uses_of}
-use Rattle.kn_system.specs.Settled.{unsettled}
+use Rattle.kn_system.specs.Settled.{count_unsettled}
 use Rattle.kn_settle.specs.Counters.{AreVisited, AreWaiting, AreWhole, IsUsed, IsVisit, rank, trues}
 use Rattle.kn_settle.proofs.GateClimbs.{within-further, within-more}
 use Rattle.kn_settle.proofs.VisitedUses.{rank-within}
 
 fewer-unsettled : (levels : List ℕ) (p v : ℕ) → p < length levels → slice_index levels p ≡ 0 → 0 < v
-    → unsettled (slice_set levels p v) < unsettled levels
+    → count_unsettled (slice_set levels p v) < count_unsettled levels
 fewer-unsettled [] p v l none some = absurd (omega arith)
 fewer-unsettled (zero ∷ levels) zero zero l none some = absurd (omega arith)
 fewer-unsettled (zero ∷ levels) zero (suc v) l none some = omega arith
@@ -63,15 +63,16 @@ pub visit-used : (s : SystemEquations) (p v : ℕ) (levels : List ℕ) (marks af
     → p < length levels → slice_index levels p ≡ 0 → 0 < v → IsUsed s marks levels start mid
     → IsVisit s marks after mid new → IsUsed s after (slice_set levels p v) start new
 visit-used s p v levels marks after start mid new within fresh some used visit =
-    let fewer : unsettled (slice_set levels p v) < unsettled levels = fewer-unsettled levels p v within fresh some in
+    let fewer : count_unsettled (slice_set levels p v) < count_unsettled levels =
+    fewer-unsettled levels p v within fresh some in
     record {
       nodes = visit.most;
       principals = omega (arith, fewer, used.principals);
-      ticks = within-more (3 * trues marks + (length s.requesters - unsettled levels)
+      ticks = within-more (3 * trues marks + (length s.requesters - count_unsettled levels)
           + (1 + 3 * (trues after - trues marks)))
-          (3 * trues after + (length s.requesters - unsettled (slice_set levels p v))) start new
+          (3 * trues after + (length s.requesters - count_unsettled (slice_set levels p v))) start new
           (omega (arith, fewer, used.principals, visit.more))
-          (within-further (3 * trues marks + (length s.requesters - unsettled levels))
+          (within-further (3 * trues marks + (length s.requesters - count_unsettled levels))
           (1 + 3 * (trues after - trues marks)) start mid new used.ticks visit.ticks);
     }
 

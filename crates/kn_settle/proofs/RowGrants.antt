@@ -4,7 +4,7 @@ use Rattle.std.proofs.Common.{◌∙◌, subst}
 use Rattle.kn_proof.specs.declared.row.Row.{Row as ProofRow}
 use Rattle.kn_system.specs.Equations.{SystemEquations, row_at}
 use Rattle.kn_system.specs.Lawful.{IsGranted}
-use Rattle.kn_system.specs.Settled.{IsSettled, unsettled}
+use Rattle.kn_system.specs.Settled.{IsSettled, count_unsettled}
 
 -- the levels and the rows after it are settled
 pub settled_read : (s : SystemEquations) (v p by : ℕ) (levels : List ℕ) (rows after : List ProofRow)
@@ -21,6 +21,6 @@ settled_read s v p by levels rows after own pushed h =
 -- and fewer are left
 pub fewer_read : (s : SystemEquations) (v p by : ℕ) (levels : List ℕ) (rows : List ProofRow)
     → p ≡ (row_at s.rows by).authorizer → IsGranted s v levels rows by
-    → unsettled (slice_set levels p v) < unsettled levels
+    → count_unsettled (slice_set levels p v) < count_unsettled levels
 fewer_read s v p by levels rows own h =
-    subst (λ (q : ℕ). unsettled (slice_set levels q v) < unsettled levels) (sym own) h.fewer
+    subst (λ (q : ℕ). count_unsettled (slice_set levels q v) < count_unsettled levels) (sym own) h.fewer

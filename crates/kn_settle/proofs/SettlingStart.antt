@@ -16,7 +16,7 @@ use Rattle.kn_system.specs.Lawful.{ProofDeterminesLevel, SettlingEnds}
 use Rattle.kn_system.specs.Least.{at_first, least_levels}
 use Rattle.kn_system.specs.Nodes.{pieces_of, row_ups, ups_of_rows}
 use Rattle.kn_system.specs.Proofs.{levels_after, IsProof}
-use Rattle.kn_system.specs.Settled.{IsSettled, unsettled}
+use Rattle.kn_system.specs.Settled.{IsSettled, count_unsettled}
 use Rattle.kn_settle.specs.Counters.{AreWaiting, IsCounted, IsCounting, IsUsed, is_node, is_row, most_ticks, one_if}
 use Rattle.kn_settle.specs.Counters.{trues, under}
 use Rattle.kn_settle.proofs.GateClimbs.{within-more}
@@ -112,7 +112,7 @@ counting-start s v is = record {
 pub used-most : (s : SystemEquations) (marks : List Bool) (levels : List ℕ) (old new : ℕ)
     → IsUsed s marks levels old new → IsWithin (most_ticks s) old new
 used-most s marks levels old new h =
-    within-more (3 * trues marks + (length s.requesters - unsettled levels)) (most_ticks s) old new
+    within-more (3 * trues marks + (length s.requesters - count_unsettled levels)) (most_ticks s) old new
     (omega (arith, h.nodes)) h.ticks
 
 -- once all above the lowest level is settled, these are the least levels, and the rows are a proof

@@ -16,7 +16,7 @@ use Rattle.kn_system.specs.Form.{form_levels}
 use Rattle.kn_system.specs.Forms.{AreForms}
 use Rattle.kn_system.specs.Least.{least_levels}
 use Rattle.kn_system.specs.Nodes.{pieces_of, row_ups, ups_of, ups_of_rows}
-use Rattle.kn_system.specs.Settled.{unsettled}
+use Rattle.kn_system.specs.Settled.{count_unsettled}
 use Rattle.kn_system.proofs.KeptRows.{length-pieces_of}
 use Rattle.kn_settle.specs.Counters.{AreWhole, IsCounted, IsCounting, IsUsed, is_node, one_if, piece_at, under, trues}
 use Rattle.kn_settle.proofs.GateClimbs.{within-more}
@@ -119,7 +119,7 @@ marks-reached s levels marks counts is counted whole =
     (omega (arith, is.levels_fit.0)) 0 (row_ups 0 (length s.rows)) (pieces_of s.rows) marks
     (system-forms s is) agree (rows-old 0 0 (length s.rows)) (λ g l. refl) size
 
-principals-reached : (levels : List ℕ) → unsettled levels + reached_principals levels ≡ length levels
+principals-reached : (levels : List ℕ) → count_unsettled levels + reached_principals levels ≡ length levels
 principals-reached [] = refl
 principals-reached (zero ∷ levels) = let rest = principals-reached levels in omega (arith, rest)
 principals-reached (suc level ∷ levels) = let rest = principals-reached levels in omega (arith, rest)
@@ -135,6 +135,6 @@ used-reached s v levels marks counts buckets old new is size counting used e =
     let people = principals-reached levels in
     subst (λ (ls : List ℕ). IsWithin (3 * reached_nodes (s.levels - 1) ls (pieces_of s.rows) + reached_principals ls)
     old new) e
-    (within-more (3 * trues marks + (length s.requesters - unsettled levels))
+    (within-more (3 * trues marks + (length s.requesters - count_unsettled levels))
     (3 * reached_nodes (s.levels - 1) levels (pieces_of s.rows) + reached_principals levels) old new
     (omega (arith, nodes, people, size)) used.ticks)

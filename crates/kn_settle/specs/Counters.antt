@@ -9,7 +9,7 @@ use Rattle.kn_system.specs.declared.rows.Piece.TheVariants.{Who, Gate}
 use Rattle.kn_system.specs.Counts.{IsWithin}
 use Rattle.kn_system.specs.Equations.{SystemEquations, row_at, node_total, leaf_total}
 use Rattle.kn_system.specs.Nodes.{pieces_of, ups_of_rows, uses_of}
-use Rattle.kn_system.specs.Settled.{unsettled}
+use Rattle.kn_system.specs.Settled.{count_unsettled}
 
 -- the most steps of settling
 abbrev pub most_ticks : SystemEquations → ℕ
@@ -133,5 +133,5 @@ pub record IsVisit (s : SystemEquations) (marks after : List Bool) (old new : �
 -- at most three steps were taken for each marked node, and one for each principal with a level
 pub record IsUsed (s : SystemEquations) (marks : List Bool) (levels : List ℕ) (old new : ℕ) : Type 0 where
   pub nodes : trues marks ≤ node_total s.rows
-  pub principals : unsettled levels ≤ length s.requesters
-  pub ticks : IsWithin (3 * trues marks + (length s.requesters - unsettled levels)) old new
+  pub principals : count_unsettled levels ≤ length s.requesters
+  pub ticks : IsWithin (3 * trues marks + (length s.requesters - count_unsettled levels)) old new

@@ -135,23 +135,14 @@ impl Counters {
         let mut up = system.node(node, steps).up;
         loop {
             match up {
-                Up::Row(row) => {
-                    return match self.put_row(system, row, value, levels, steps) {
-                        Ok(()) => Ok(()),
-                        Err(NoMemory) => Err(NoMemory),
-                    };
-                }
+                Up::Row(row) => return self.put_row(system, row, value, levels, steps),
                 Up::Node(gate) => {
                     let above = system.node(gate, steps);
-                    match self.count(gate, need_of(above.sort)) {
-                        Ok(full) => {
-                            if !full {
-                                return Ok(());
-                            }
-                            up = above.up;
-                        }
-                        Err(NoMemory) => return Err(NoMemory),
+                    let full = self.count(gate, need_of(above.sort))?;
+                    if !full {
+                        return Ok(());
                     }
+                    up = above.up;
                 }
             }
         }

@@ -4,7 +4,7 @@ ghost use Rattle.std.specs.Prelude.{length, IfOk, IfSome, MatchOption, OnOk, sli
 ghost use Rattle.kn_settle.specs.Counters.{AreLonger, IsCounting, IsIn, IsUsed};
 ghost use Rattle.kn_settle.specs.Blank.{AreTrailed};
 ghost use Rattle.kn_system.specs.Equations.{IsSystem, node_total, row_at};
-ghost use Rattle.kn_system.specs.Settled.{IsSettled, IsGrant, unsettled};
+ghost use Rattle.kn_system.specs.Settled.{IsSettled, IsGrant, count_unsettled};
 
 use crate::ceilings::Ceilings;
 use crate::counters::Counters;
@@ -77,7 +77,7 @@ pub(crate) fn grant<L, C: Ceilings<L>>(
     ensures settled { OnOk result (IsSettled system.now value levels.new.values.items rows.new) }
     ensures levels { OnOk result (levels.new.values.items
         ≡ slice_set levels.old.values.items (row_at system.now.rows row).authorizer value) }
-    ensures fewer { OnOk result (unsettled levels.new.values.items < unsettled levels.old.values.items) }
+    ensures fewer { OnOk result (count_unsettled levels.new.values.items < count_unsettled levels.old.values.items) }
     ensures grants { (start : ℕ) (marks : ListOf Bool)
         → IsCounting system.now value levels.old.values.items marks counters.old.counts.items counters.old.buckets.items
         → IsUsed system.now marks levels.old.values.items start steps.old

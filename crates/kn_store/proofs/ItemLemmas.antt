@@ -11,7 +11,7 @@ use Rattle.kn_history.specs.declared.item.Item.TheVariants as I
 use Rattle.kn_history.specs.declared.update.Numbered.{Numbered}
 use Rattle.kn_history.specs.declared.fault.StoreFault.{StoreFault}
 use Rattle.kn_history.specs.History.{additions, update_may_follow}
-use Rattle.kn_history.specs.Batches.{numbered, all_numbered, numbered_from, batch_by, item_reads}
+use Rattle.kn_history.specs.Batches.{number_item, all_numbered, numbered_from, batch_by, item_reads}
 use Rattle.kn_history.specs.Batches.{refusal_of_item, found_at, refused_from, refusal_of_items}
 use Rattle.kn_history.proofs.Batches.{ids-go_on, batch-follows}
 use Rattle.kn_store.specs.LiveView.{LiveView, live_view}
@@ -20,7 +20,7 @@ use Rattle.kn_store.proofs.ViewLemmas.{view-addition, view-removal}
 
 -- One item.
 
-change-is : (past : List Numbered) (item : Item) → change_of (live_view past) item ≡ numbered past item
+change-is : (past : List Numbered) (item : Item) → change_of (live_view past) item ≡ number_item past item
 change-is past (I.Add text) = refl
 change-is past (I.Remove id) = refl
 
@@ -29,7 +29,7 @@ refusal-is past (I.Add text) = refl
 refusal-is past (I.Remove id) = refl
 
 view-item : (past : List Numbered) (item : Item)
-    → after_item (live_view past) item ≡ live_view (past ++ numbered past item ∷ [])
+    → after_item (live_view past) item ≡ live_view (past ++ number_item past item ∷ [])
 view-item past (I.Add text) = view-addition past text
 view-item past (I.Remove id) = view-removal past id
 
@@ -46,7 +46,7 @@ module _ (past : List Numbered) (items : List Item) (place : ℕ) (live : LiveVi
     (left : List Item) (item : Item) (rest : List Item)
     (so_far : AreMadeUpTo past items place live changes left) (taken : left ≡ item ∷ rest) where
   refused_next : refusal_of_items past items ≡ found_at (place + 1) (refusal_of_item (past ++ changes) item)
-      (refused_from (place + 1 + 1) ((past ++ changes) ++ numbered (past ++ changes) item ∷ []) rest)
+      (refused_from (place + 1 + 1) ((past ++ changes) ++ number_item (past ++ changes) item ∷ []) rest)
   refused_next = so_far.refusal ∙ ap (refused_from (place + 1) (past ++ changes)) taken
 
   refusal_here : refusal_of live item ≡ refusal_of_item (past ++ changes) item
@@ -57,7 +57,7 @@ module _ (past : List Numbered) (items : List Item) (place : ℕ) (live : LiveVi
   refused_item fault refused =
       refused_next
       ∙ ap (λ o. found_at (place + 1) o
-      (refused_from (place + 1 + 1) ((past ++ changes) ++ numbered (past ++ changes) item ∷ []) rest))
+      (refused_from (place + 1 + 1) ((past ++ changes) ++ number_item (past ++ changes) item ∷ []) rest))
       (sym refusal_here ∙ refused)
 
   pub one_more_made : (next : LiveView) (change : Numbered) → next ≡ after_item live item → change ≡ change_of live item
@@ -65,20 +65,21 @@ module _ (past : List Numbered) (items : List Item) (place : ℕ) (live : LiveVi
       → item_reads item ≡ true → AreMadeUpTo past items (place + 1) next (changes ++ change ∷ []) rest
   one_more_made next change after is accepted reads =
       let behind = past ++ changes in
-      let number : change ≡ numbered behind item = is ∙ ap (λ v. change_of v item) so_far.view
+      let number : change ≡ number_item behind item = is ∙ ap (λ v. change_of v item) so_far.view
       ∙ change-is behind item in
-      let longer : behind ++ numbered behind item ∷ [] ≡ past ++ (changes ++ change ∷ []) =
+      let longer : behind ++ number_item behind item ∷ [] ≡ past ++ (changes ++ change ∷ []) =
       ap (λ c. behind ++ c ∷ []) (sym number) ∙ append_assoc past changes (change ∷ []) in
       record {
         view = after ∙ ap (λ v. after_item v item) so_far.view ∙ view-item behind item ∙ ap live_view longer;
         numbers =
             so_far.numbers ∙ ap (λ l. changes ++ all_numbered behind l) taken
-            ∙ ap (λ l. changes ++ numbered behind item ∷ all_numbered l rest) longer
+            ∙ ap (λ l. changes ++ number_item behind item ∷ all_numbered l rest) longer
             ∙ ap (λ c. changes ++ c ∷ all_numbered (past ++ (changes ++ change ∷ [])) rest) (sym number)
             ∙ sym (append_assoc changes (change ∷ []) (all_numbered (past ++ (changes ++ change ∷ [])) rest));
         refusal =
             refused_next
-            ∙ ap (λ o. found_at (place + 1) o (refused_from (place + 1 + 1) (behind ++ numbered behind item ∷ []) rest))
+            ∙ ap (λ o. found_at (place + 1) o
+            (refused_from (place + 1 + 1) (behind ++ number_item behind item ∷ []) rest))
             (sym refusal_here ∙ accepted)
             ∙ ap (λ l. refused_from (place + 1 + 1) l rest) longer;
         reads = so_far.reads ∙ ap (list_all item_reads) taken ∙ rw reads refl;

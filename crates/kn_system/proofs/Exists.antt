@@ -7,7 +7,7 @@ use Rattle.kn_system.specs.Equations.{SystemEquations, IsSystem, row_at}
 use Rattle.kn_system.specs.Least.{worth, at_first, least_levels}
 use Rattle.kn_system.specs.Lawful.{IsGranted}
 use Rattle.kn_system.specs.Proofs.{IsProof}
-use Rattle.kn_system.specs.Settled.{IsSettled, IsGrant, HasNoneBefore, unsettled}
+use Rattle.kn_system.specs.Settled.{IsSettled, IsGrant, HasNoneBefore, count_unsettled}
 use Rattle.kn_system.proofs.ProofsDetermine.{proof-determines}
 use Rattle.kn_system.proofs.SettlingByLevels.{starts, grants, goes_down, ends}
 
@@ -52,7 +52,7 @@ found-before s v levels (suc n) l =
 
 -- one level is settled, by as many grants as principals are left
 settle-at : (s : SystemEquations) (v n : ℕ) (levels : List ℕ) (rows : List ProofRow) → IsSystem s → 0 < v
-    → unsettled levels ≤ n → IsSettled s v levels rows → Reached s (v - 1)
+    → count_unsettled levels ≤ n → IsSettled s v levels rows → Reached s (v - 1)
 settle-at s v zero levels rows fits some few h =
     elim (found-before s v levels (length s.rows) (omega arith)) [
       | inl one ↦ let more : IsGranted s v levels rows one.0 = grants s v levels rows one.0 fits some h one.1 in
@@ -72,7 +72,7 @@ settle-down s zero fits r = r
 settle-down s (suc v) fits r =
     let same : suc v - 1 ≡ v = omega arith in
     let next : Reached s (suc v - 1) =
-    settle-at s (suc v) (unsettled r.levels) r.levels r.rows fits (omega arith) (omega arith) r.settled in
+    settle-at s (suc v) (count_unsettled r.levels) r.levels r.rows fits (omega arith) (omega arith) r.settled in
     settle-down s v fits (subst (Reached s) same next)
 
 -- the policy's least level has a proof

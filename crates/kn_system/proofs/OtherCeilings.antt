@@ -5,27 +5,30 @@ use Rattle.std.proofs.lemmas.List.{length-map, length-set, map-set}
 use Rattle.std.proofs.lemmas.List.Elements.{All-set}
 use Rattle.kn_system.specs.declared.rows.Piece.{Piece}
 use Rattle.kn_system.specs.declared.rows.StoredRow.{StoredRow}
-use Rattle.kn_system.specs.Equations.{IsSystem, IsSystemRow, node_total, recapped, row_at}
+use Rattle.kn_system.specs.Equations.{IsSystem, IsSystemRow, node_total, with_row_ceiling, row_at}
 use Rattle.kn_system.specs.KeptRows.{AreEndToEnd, AreKept, kept_row, kept_rows}
 use Rattle.kn_system.specs.Nodes.{FlatNodes, pieces_of, row_ups, ups_of, ups_of_rows}
 use Rattle.kn_system.specs.Rows.{SystemRow}
 use Rattle.kn_system.proofs.KeptRows.{row_kept}
 
-pub pieces-recapped : (rows : List SystemRow) (i ceiling : ℕ) → pieces_of (recapped rows i ceiling) ≡ pieces_of rows
+pub pieces-recapped : (rows : List SystemRow) (i ceiling : ℕ)
+    → pieces_of (with_row_ceiling rows i ceiling) ≡ pieces_of rows
 pieces-recapped [] i ceiling = refl
 pieces-recapped (row ∷ rows) zero ceiling = refl
 pieces-recapped (row ∷ rows) (suc i) ceiling = ap (λ ps. row.formula ++ ps) (pieces-recapped rows i ceiling)
 
-pub nodes-recapped : (rows : List SystemRow) (i ceiling : ℕ) → node_total (recapped rows i ceiling) ≡ node_total rows
+pub nodes-recapped : (rows : List SystemRow) (i ceiling : ℕ)
+    → node_total (with_row_ceiling rows i ceiling) ≡ node_total rows
 nodes-recapped [] i ceiling = refl
 nodes-recapped (row ∷ rows) zero ceiling = refl
 nodes-recapped (row ∷ rows) (suc i) ceiling = ap (λ n. length row.formula + n) (nodes-recapped rows i ceiling)
 
-ups-recapped : (rows : List SystemRow) (i ceiling : ℕ) → ups_of_rows (recapped rows i ceiling) ≡ ups_of_rows rows
+ups-recapped : (rows : List SystemRow) (i ceiling : ℕ)
+    → ups_of_rows (with_row_ceiling rows i ceiling) ≡ ups_of_rows rows
 ups-recapped rows i ceiling =
     let row : SystemRow =
     record { authorizer = (row_at rows i).authorizer; ceiling = ceiling; formula = (row_at rows i).formula } in
-    ap (λ n. ups_of 0 (row_ups 0 n) (pieces_of (recapped rows i ceiling))) (length-set rows i row)
+    ap (λ n. ups_of 0 (row_ups 0 n) (pieces_of (with_row_ceiling rows i ceiling))) (length-set rows i row)
     ∙ ap (ups_of 0 (row_ups 0 (length rows))) (pieces-recapped rows i ceiling)
 
 -- the row as it is kept, with another ceiling
@@ -34,7 +37,7 @@ stored_with row ceiling = record { authorizer = row.authorizer; ceiling = ceilin
 
 pub kept-recapped : (pieces : List Piece) (rows : List StoredRow) (i ceiling : ℕ) (d : StoredRow) → i < length rows
     → kept_rows pieces (slice_set rows i (stored_with (get_or rows i d) ceiling))
-    ≡ recapped (kept_rows pieces rows) i ceiling
+    ≡ with_row_ceiling (kept_rows pieces rows) i ceiling
 kept-recapped pieces rows i ceiling d within =
     let row : SystemRow = kept_row pieces (get_or rows i d) in
     let count : length (kept_rows pieces rows) ≡ length rows = simp length-map in
@@ -55,7 +58,7 @@ end-recapped start (row ∷ rows) (suc i) ceiling d end h =
 pub record IsRecapped (levels : ℕ) (requesters : List Bool) (rows new : List StoredRow) (flat : FlatNodes)
     (i ceiling : ℕ) : Type 0 where
   pub kept : AreKept new flat
-  pub same : kept_rows flat.pieces new ≡ recapped (kept_rows flat.pieces rows) i ceiling
+  pub same : kept_rows flat.pieces new ≡ with_row_ceiling (kept_rows flat.pieces rows) i ceiling
   pub fits : IsSystem (record { levels = levels; requesters = requesters; rows = kept_rows flat.pieces new })
 
 pub is_recapped : (levels : ℕ) (requesters : List Bool) (rows new : List StoredRow) (flat : FlatNodes) (i ceiling : ℕ)
@@ -66,7 +69,7 @@ pub is_recapped : (levels : ℕ) (requesters : List Bool) (rows new : List Store
 is_recapped levels requesters rows new flat i ceiling d within low e fits kept =
     let old : List SystemRow = kept_rows flat.pieces rows in
     let stored : StoredRow = get_or rows i d in
-    let same : kept_rows flat.pieces new ≡ recapped old i ceiling = ap (kept_rows flat.pieces) e
+    let same : kept_rows flat.pieces new ≡ with_row_ceiling old i ceiling = ap (kept_rows flat.pieces) e
     ∙ kept-recapped flat.pieces rows i ceiling d within in
     let count : length old ≡ length rows = simp length-map in
     let size : i < length old = omega arith in

@@ -11,7 +11,7 @@ use Rattle.kn_system.specs.Least.{worth, at_first}
 use Rattle.kn_system.specs.Lawful.{IsByPrincipal, IsGranted, GoesOn}
 use Rattle.kn_system.specs.Order.{Below, Carries}
 use Rattle.kn_system.specs.Proofs.{levels_after, IsStep, AreSteps, IsClosed, IsProof}
-use Rattle.kn_system.specs.Settled.{IsClosedAbove, IsSettled, IsGrant, HasNoneBefore, unsettled}
+use Rattle.kn_system.specs.Settled.{IsClosedAbove, IsSettled, IsGrant, HasNoneBefore, count_unsettled}
 use Rattle.kn_system.proofs.Rounds.{worth-carried, by_principal}
 use Rattle.kn_system.proofs.Settles.{keeps_levels}
 use Rattle.kn_system.proofs.ProofsDetermine.{set_at, set-raises, steps-raise, size-at_first}
@@ -79,7 +79,7 @@ other-of s levels p fits l started none =
     none-of (s.levels - 1) (slice_index_or s.requesters p true) some no_level
 
 unsettled-set : (levels : List ℕ) (p v : ℕ) → p < length levels → slice_index levels p ≡ 0 → 0 < v
-    → unsettled (slice_set levels p v) < unsettled levels
+    → count_unsettled (slice_set levels p v) < count_unsettled levels
 unsettled-set [] p v l none some = absurd (omega arith)
 unsettled-set (zero ∷ levels) zero zero l none some = absurd (omega arith)
 unsettled-set (zero ∷ levels) zero (suc v) l none some = omega arith

@@ -17,8 +17,8 @@ abbrev pub row_at : List SystemRow → ℕ → SystemRow
 row_at rows i = slice_index_or rows i (record { authorizer = 0; ceiling = 0; formula = [] })
 
 -- the rows, where this one has another ceiling
-abbrev pub recapped : List SystemRow → ℕ → ℕ → List SystemRow
-recapped rows i ceiling =
+abbrev pub with_row_ceiling : List SystemRow → ℕ → ℕ → List SystemRow
+with_row_ceiling rows i ceiling =
     slice_set rows i
     (record { authorizer = (row_at rows i).authorizer; ceiling = ceiling; formula = (row_at rows i).formula })
 

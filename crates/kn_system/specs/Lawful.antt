@@ -6,7 +6,7 @@ use Rattle.kn_system.specs.Equations.{SystemEquations, IsSystem, row_at}
 use Rattle.kn_system.specs.Least.{round_at, round, at_first, rounds, least_levels}
 use Rattle.kn_system.specs.Order.{Below}
 use Rattle.kn_system.specs.Proofs.{levels_after, AreSteps, HasOneRowEach, IsProof, IsStep}
-use Rattle.kn_system.specs.Settled.{IsSettled, IsGrant, HasNoneBefore, unsettled}
+use Rattle.kn_system.specs.Settled.{IsSettled, IsGrant, HasNoneBefore, count_unsettled}
 
 -- a round leaves these levels, and they are at or below all levels that no round raises
 pub record IsLeast (s : SystemEquations) (levels : List ℕ) : Type 0 where
@@ -105,7 +105,7 @@ SettlingStarts = (s : SystemEquations) → IsSystem s → IsSettled s (s.levels 
 pub record IsGranted (s : SystemEquations) (v : ℕ) (levels : List ℕ) (rows : List ProofRow) (i : ℕ) : Type 0 where
   pub settled : IsSettled s v (slice_set levels (row_at s.rows i).authorizer v)
       (rows ++ (record { principal = (row_at s.rows i).authorizer; value = v; by = i }) ∷ [])
-  pub fewer : unsettled (slice_set levels (row_at s.rows i).authorizer v) < unsettled levels
+  pub fewer : count_unsettled (slice_set levels (row_at s.rows i).authorizer v) < count_unsettled levels
 
 -- a row that gives its authorizer the level may do so
 abbrev pub SettlingGrants : Type 0

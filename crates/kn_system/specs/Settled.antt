@@ -40,7 +40,7 @@ abbrev pub HasNoneBefore : SystemEquations → ℕ → List ℕ → ℕ → Type
 HasNoneBefore s v levels n = (i : ℕ) → i < n → GivesNothing s v levels i
 
 -- how many have no level above the lowest
-abbrev pub unsettled : List ℕ → ℕ
-unsettled [] = 0
-unsettled (zero ∷ levels) = suc (unsettled levels)
-unsettled (suc level ∷ levels) = unsettled levels
+abbrev pub count_unsettled : List ℕ → ℕ
+count_unsettled [] = 0
+count_unsettled (zero ∷ levels) = suc (count_unsettled levels)
+count_unsettled (suc level ∷ levels) = count_unsettled levels

@@ -46,7 +46,7 @@ impl<L> Model for System<L> {
 
 impl<L> System<L> {
     ghost use Rattle.kn_system.specs.Equations.{IsRowOver, IsSystemRow, IsSystem, row_at, node_total, leaf_total};
-    ghost use Rattle.kn_system.specs.Equations.{recapped};
+    ghost use Rattle.kn_system.specs.Equations.{with_row_ceiling};
     ghost use Rattle.kn_system.specs.Form.{form_level};
     ghost use Rattle.kn_system.specs.Forms.{IsFormula};
     ghost use Rattle.kn_system.specs.Lawful.{AreLevels};
@@ -129,7 +129,7 @@ impl<L> System<L> {
         requires row_in_range { row < length self.old.rows }
         requires ceiling_in_range { ceiling < self.old.levels }
         ensures former { result ≡ (row_at self.old.rows row).ceiling }
-        ensures ok { self.new ≡ record self.old { rows = recapped self.old.rows row ceiling } }
+        ensures ok { self.new ≡ record self.old { rows = with_row_ceiling self.old.rows row ceiling } }
     {
         let former = self.rows.as_slice()[row as usize];
         let _former = self.rows.replace(row, StoredRow { ceiling, ..former });

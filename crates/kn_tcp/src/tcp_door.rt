@@ -1,6 +1,6 @@
 //! A door of a TCP listener.
 ghost use Rattle.std.specs.Prelude.{◌≡◌, ◌+◌, ◌≤◌, ◌<◌};
-ghost use Rattle.kn_outside.specs.Faults.{raised};
+ghost use Rattle.kn_outside.specs.Faults.{count_up};
 ghost use Rattle.kn_real.specs.Counted.{counted_link_seen};
 ghost use Rattle.kn_workers.specs.Doors.{Accepts};
 ghost use Rattle.kn_workers.specs.declared.accepted.Accepted.TheVariants as A;
@@ -76,7 +76,7 @@ impl Door for TcpDoor {
         ensures answer { Accepts counted_link_seen result (counted_seen self.old) (counted_seen self.new) }
         ensures finished { self.old.finished ≤ self.old.given }
         ensures later { self.old.faults ≤ self.new.faults }
-        ensures failed { result ≡ A.Failed → self.new.faults ≡ raised self.old.faults }
+        ensures failed { result ≡ A.Failed → self.new.faults ≡ count_up self.old.faults }
     {
         if self.given >= self.quota {
             return Accepted::Closed;

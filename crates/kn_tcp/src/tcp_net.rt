@@ -4,7 +4,7 @@ ghost use Rattle.std.specs.Str.{IsUtf8};
 ghost use Rattle.std.specs.IoError.{error_kind};
 ghost use Rattle.std.specs.declared.io.ErrorKind.{ErrorKind};
 ghost use Rattle.kn_base.specs.declared.limits.TheConstants.{WORKERS};
-ghost use Rattle.kn_outside.specs.Faults.{raised};
+ghost use Rattle.kn_outside.specs.Faults.{count_up};
 ghost use Rattle.kn_workers.specs.declared.binding.BindFault.TheVariants as B;
 ghost use Rattle.kn_tcp.specs.Tcp.{counted_seen, tcp_seen};
 ghost use Rattle.kn_workers.specs.Nets.{AreBound, Binds, share, with_faults};
@@ -73,7 +73,7 @@ impl Net for TcpNet {
         ensures doors { IfOk result (λ rooms. length rooms ≡ served.now.doors) }
         ensures new { IfOk result (λ rooms. AreBound counted_seen served.now.quota served.now.doors 0 rooms) }
         ensures binds { Binds served.now result (tcp_seen self.old) (tcp_seen self.new) }
-        ensures failed { result ≡ Err B.Failed → self.new.faults ≡ raised self.old.faults }
+        ensures failed { result ≡ Err B.Failed → self.new.faults ≡ count_up self.old.faults }
         ensures text { IfOk result (λ rooms. IsUtf8 served.now.address) }
     {
         let binding = match Binding::of(alloc, served) {

@@ -17,7 +17,7 @@ use Rattle.kn_transcript.specs.declared.progress.Progress.{Progress}
 use Rattle.kn_transcript.specs.Followed.{Answered, Follows, IsPermitted, history_behind}
 use Rattle.kn_transcript.specs.Accepted.{IsFollowed, is_foreign, is_value, requests_in, text_in}
 use Rattle.kn_transcript.specs.Judging.{state_of}
-use Rattle.kn_transcript.specs.Progress.{IsAnsweredBy, HasComeTo, AreMeant, counted}
+use Rattle.kn_transcript.specs.Progress.{IsAnsweredBy, HasComeTo, AreMeant, count_value}
 
 -- one more reply is followed
 pub follows-push : (past : List Update) (old : State) (answered : List Answered) (history : List Update) (state : State)
@@ -50,12 +50,12 @@ texts-push answered request reply =
 
 -- count_by goes over a list from its front, so that one more element is told by `filter`
 count-push : {X : Type 0} (p : X → Bool) (xs : List X) (x : X)
-    → count_by p (xs ++ x ∷ []) ≡ counted (count_by p xs) (p x)
+    → count_by p (xs ++ x ∷ []) ≡ count_value (count_by p xs) (p x)
 count-push {X = X} p xs x =
     sym (length-filter p (xs ++ x ∷ [])) ∙ ap length (filter-append p xs (x ∷ []))
-    ∙ by (p x) (filter p xs) ∙ ap (λ (n : ℕ). counted n (p x)) (length-filter p xs)
+    ∙ by (p x) (filter p xs) ∙ ap (λ (n : ℕ). count_value n (p x)) (length-filter p xs)
   where
-    by : (b : Bool) (ys : List X) → length (ys ++ cond b (x ∷ []) []) ≡ counted (length ys) b
+    by : (b : Bool) (ys : List X) → length (ys ++ cond b (x ∷ []) []) ≡ count_value (length ys) b
     by true ys = length_push ys x
     by false ys = ap length (append-nil ys)
 
@@ -97,7 +97,7 @@ module _ (past : List Update) (replies : List ℕ) (answered : List Answered) (o
             (state_of new.connection)
             come.follows taken.permitted);
         values =
-            a.values ∙ ap (λ (n : ℕ). counted n (is_value reply)) come.values
+            a.values ∙ ap (λ (n : ℕ). count_value n (is_value reply)) come.values
             ∙ sym (count-push (λ (a : Answered). is_value a.reply) answered
             (record { request = request; reply = reply }));
       }

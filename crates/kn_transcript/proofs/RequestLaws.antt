@@ -15,7 +15,7 @@ use Rattle.kn_transcript.specs.Followed.{IsPermitted}
 use Rattle.kn_transcript.specs.Accepted.{is_foreign, is_value}
 use Rattle.kn_transcript.specs.Judging.{state_of, Takes, Judges, JudgesReply}
 use Rattle.kn_transcript.specs.Progress.{IsAnsweredBy, IsMissed, IsFaultAt, IsRequestJudged, IsBehindReply, IsMovedOn}
-use Rattle.kn_transcript.specs.Progress.{NoneIsPermitted, begins_with_value, counted}
+use Rattle.kn_transcript.specs.Progress.{NoneIsPermitted, begins_with_value, count_value}
 use Rattle.kn_transcript.proofs.ConfigChoices.{config_at, lacking-behind}
 
 memory_or_not : (reply : Reply) → (reply ≡ NoMemory) ⊎ (reply ≢ NoMemory)
@@ -138,8 +138,9 @@ module _ (old mid new : Progress) (request : Request) (number : ℕ) (judged : i
             behind = behind.book ∙ takes.behind;
           };
           values =
-              behind.values ∙ ap (λ (n : ℕ). counted n (begins_with_value mid.left.now)) answers
-              ∙ ap (counted old.answers) (ap begins_with_value (left ∙ takes.taken.cut) ∙ value_told takes.reply rest);
+              behind.values ∙ ap (λ (n : ℕ). count_value n (begins_with_value mid.left.now)) answers
+              ∙ ap (count_value old.answers) (ap begins_with_value (left ∙ takes.taken.cut)
+              ∙ value_told takes.reply rest);
         }
 
     pub moved_on : {X : Type 0} (found : Option (List ℕ)) (result : Result X TranscriptFault)

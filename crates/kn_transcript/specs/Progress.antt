@@ -25,15 +25,15 @@ begins_with_value [] = false
 begins_with_value (b ∷ left) = b == 86
 
 -- so many replies gave a value, and perhaps one more
-abbrev pub counted : ℕ → Bool → ℕ
-counted n more = if more then n + 1 else n
+abbrev pub count_value : ℕ → Bool → ℕ
+count_value n more = if more then n + 1 else n
 
 -- A permitted reply to the request was taken.
 pub record IsAnsweredBy (old : Progress) (request : Request) (new : Progress) : Type 0 where
   pub judged : is_foreign request ≡ false
   pub takes : Takes old.book (state_of old.connection) (shape_of request) old.left.now new.left.now new.book
       (state_of new.connection)
-  pub values : new.answers ≡ counted old.answers (is_value takes.reply)
+  pub values : new.answers ≡ count_value old.answers (is_value takes.reply)
 
 -- what is amiss with bytes that begin with no permitted reply
 abbrev pub IsMissed : List ℕ → ℕ → TranscriptFault → Type 0
@@ -69,7 +69,7 @@ pub record IsBehindReply (old : Progress) (rest : List ℕ) (new : Progress) : T
   pub book : new.book ≡ old.book
   pub connection : new.connection ≡ old.connection
   pub left : new.left.now ≡ rest
-  pub values : new.answers ≡ counted old.answers (begins_with_value old.left.now)
+  pub values : new.answers ≡ count_value old.answers (begins_with_value old.left.now)
 
 -- these bytes are left behind the reply that was found, or it is said what is amiss where none was
 abbrev pub IsMovedOn : {X : Type 0} → Progress → Option (List ℕ) → ℕ → Progress → Result X TranscriptFault → Type 0

@@ -11,7 +11,7 @@ use Rattle.kn_trees.specs.Forms.{link, links_of}
 use Rattle.kn_trees.specs.Forests.{Pools, pools, run, tree_at, link_at, tree_of, trees_of, IsWithin, IsPlaced, AreShort}
 use Rattle.kn_trees.specs.Forests.{IsForest, IsAdded}
 use Rattle.kn_trees.specs.Roots.{IsRoot, trees_at, links_to}
-use Rattle.kn_trees.specs.Signs.{joined, leaf_of}
+use Rattle.kn_trees.specs.Signs.{join_expressions, leaf_of}
 use Rattle.kn_trees.specs.declared.program.Expr.{Expr}
 use Rattle.kn_trees.specs.declared.program.Expr.TheVariants as E
 use Rattle.kn_trees.specs.declared.program.Operation.{Operation}
@@ -153,12 +153,12 @@ module _ (parts : List ℕ) (links : List LinkNode) (bytes : List ℕ) (nodes : 
       parts_are = ap (map (tree_at trees)) places_are ∙ map-map (tree_at trees) (λ (root : Root). root.place) roots
 
       pub trees-joined : (joint : Joint) (node : Node) → after ≡ nodes ++ node ∷ []
-          → tree_of (pools pool links bytes) trees node ≡ joined joint (map (tree_at trees) (run pool span))
-          → trees_of (pools pool links bytes) after ≡ trees ++ joined joint (trees_at trees roots) ∷ []
+          → tree_of (pools pool links bytes) trees node ≡ join_expressions joint (map (tree_at trees) (run pool span))
+          → trees_of (pools pool links bytes) after ≡ trees ++ join_expressions joint (trees_at trees roots) ∷ []
       trees-joined joint node pushed is =
           trees_of-grown_push old (pools pool links bytes) nodes parts_grown forest node after pushed
-          (joined joint (trees_at trees roots))
-          (is ∙ ap (joined joint) parts_are)
+          (join_expressions joint (trees_at trees roots))
+          (is ∙ ap (join_expressions joint) parts_are)
 
       module _ (short : length pool < 2 ^ 32) (here : All (IsRoot trees) roots) where
         parts_short : AreShort (pools pool links bytes)

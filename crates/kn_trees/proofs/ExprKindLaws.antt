@@ -17,7 +17,7 @@ use Rattle.kn_trees.specs.declared.signs.Joint.{Joint}
 use Rattle.kn_trees.specs.declared.signs.Joint.TheVariants as J
 use Rattle.kn_trees.specs.declared.signs.Leaf.{Leaf}
 use Rattle.kn_trees.specs.declared.signs.Leaf.TheVariants as L
-use Rattle.kn_trees.specs.Signs.{joined, leaf_of}
+use Rattle.kn_trees.specs.Signs.{join_expressions, leaf_of}
 use Rattle.kn_trees.specs.ExprKinds.{is_truth, is_whole, is_text, are_compared, gives, chain_kind, kind_step, link_step}
 use Rattle.kn_trees.specs.ExprKinds.{kind_of}
 use Rattle.kn_trees.specs.Kinds.{program_step, clause_step, then_step, is_well_kinded, is_clause_well_kinded}
@@ -73,7 +73,7 @@ unfolding kind_of
 kind_of-Or parts = fold-Or Found Linked kind_step link_step parts
 
 pub kind_of-joined : (joint : Joint) (parts : List Expr)
-    → kind_of (joined joint parts) ≡ gives (list_all is_truth (map kind_of parts)) K.Truth
+    → kind_of (join_expressions joint parts) ≡ gives (list_all is_truth (map kind_of parts)) K.Truth
 kind_of-joined J.And parts = kind_of-And parts
 kind_of-joined J.Or parts = kind_of-Or parts
 

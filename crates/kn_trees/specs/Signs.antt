@@ -10,16 +10,16 @@ use Rattle.kn_trees.specs.declared.signs.Leaf.{Leaf}
 use Rattle.kn_trees.specs.declared.signs.Leaf.TheVariants.{Text, Name}
 
 -- an expression behind this sign
-abbrev pub prefixed : Prefix → Expr → Expr
-prefixed Not part = E.Not part
-prefixed Minus part = E.Minus part
-prefixed Number part = E.Number part
-prefixed Deref part = E.Deref part
+abbrev pub with_prefix : Prefix → Expr → Expr
+with_prefix Not part = E.Not part
+with_prefix Minus part = E.Minus part
+with_prefix Number part = E.Number part
+with_prefix Deref part = E.Deref part
 
 -- expressions with this sign between them
-abbrev pub joined : Joint → List Expr → Expr
-joined And parts = E.And parts
-joined Or parts = E.Or parts
+abbrev pub join_expressions : Joint → List Expr → Expr
+join_expressions And parts = E.And parts
+join_expressions Or parts = E.Or parts
 
 -- a literal or a name of these bytes
 abbrev pub leaf_of : Leaf → List ℕ → Expr

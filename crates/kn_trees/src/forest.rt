@@ -4,7 +4,7 @@ ghost use Rattle.kn_trees.specs.declared.program.Expr.TheVariants as E;
 ghost use Rattle.kn_trees.specs.Forests.{no_pools, tree_at, tree_of, IsAdded, IsKept, IsPlaced};
 ghost use Rattle.kn_trees.specs.Forms.{links_of};
 ghost use Rattle.kn_trees.specs.Roots.{links_to, trees_at, IsRoot};
-ghost use Rattle.kn_trees.specs.Signs.{joined, leaf_of};
+ghost use Rattle.kn_trees.specs.Signs.{join_expressions, leaf_of};
 
 use crate::program::{Comparison, Operation};
 use crate::root::Root;
@@ -127,7 +127,7 @@ impl Forest {
     #[tactic(auto, using(crate::proofs::Forests::plain))]
     pub(crate) fn add_joined(&mut self, joint: Joint, parts: &[Root]) -> Result<u32, NoMemory>
         requires { All (IsRoot self.old) parts.now }
-        ensures { IsAdded self.old (joined joint (trees_at self.old parts.now)) self.new result }
+        ensures { IsAdded self.old (join_expressions joint (trees_at self.old parts.now)) self.new result }
     {
         let span = keep_parts(&mut self.parts, parts)?;
         let place = push_node(&mut self.nodes, joint.node(span))?;

@@ -3,7 +3,7 @@ ghost use Rattle.std.specs.Prelude.{◌≡◌, ◌<◌, All, List, length, map, 
 ghost use Rattle.kn_trees.specs.declared.program.Expr.{Expr};
 ghost use Rattle.kn_trees.specs.ExprKinds.{kind_of};
 ghost use Rattle.kn_trees.specs.Forests.{no_pools, run, tree_at, tree_of, IsPlaced, IsWithin, Pools};
-ghost use Rattle.kn_trees.specs.Signs.{joined, leaf_of, prefixed};
+ghost use Rattle.kn_trees.specs.Signs.{join_expressions, leaf_of, with_prefix};
 
 use crate::forest::Node;
 use crate::kinds::Kind;
@@ -46,7 +46,7 @@ impl Prefix {
     #[inline(always)]
     pub(crate) fn node(self, part: u32) -> Node
         ensures placed { (place : ℕ) → part < place → IsPlaced no_pools place result }
-        ensures tree { (trees : List Expr) → tree_of no_pools trees result ≡ prefixed self (tree_at trees part) }
+        ensures tree { (trees : List Expr) → tree_of no_pools trees result ≡ with_prefix self (tree_at trees part) }
     {
         match self {
             Prefix::Not => Node::Not(part),
@@ -60,7 +60,7 @@ impl Prefix {
     #[inline(always)]
     #[tactic(auto, using(crate::proofs::ExprKindLaws::kinds))]
     pub(crate) fn kind(self, part: Option<Kind>) -> Option<Kind>
-        ensures { (tree : Expr) → part ≡ kind_of tree → result ≡ kind_of (prefixed self tree) }
+        ensures { (tree : Expr) → part ≡ kind_of tree → result ≡ kind_of (with_prefix self tree) }
     {
         match self {
             Prefix::Not => gives(is_truth(part), Kind::Truth),
@@ -79,7 +79,7 @@ impl Joint {
             → IsWithin (length ps.parts) span → All (λ part. part < place) (run ps.parts span)
             → IsPlaced ps place result }
         ensures tree { (ps : Pools) (trees : List Expr)
-            → tree_of ps trees result ≡ joined self (map (tree_at trees) (run ps.parts span)) }
+            → tree_of ps trees result ≡ join_expressions self (map (tree_at trees) (run ps.parts span)) }
     {
         match self {
             Joint::And => Node::And(span),

@@ -7,7 +7,7 @@ ghost use Rattle.kn_trees.specs.Forests.{no_pools, tree_of, IsPlaced};
 ghost use Rattle.kn_trees.specs.Forms.{links_of};
 ghost use Rattle.kn_trees.specs.ExprKinds.{kind_of};
 ghost use Rattle.kn_trees.specs.Roots.{trees_at, IsRoot};
-ghost use Rattle.kn_trees.specs.Signs.{joined, leaf_of, prefixed};
+ghost use Rattle.kn_trees.specs.Signs.{join_expressions, leaf_of, with_prefix};
 
 use crate::flat_expr::FlatExpr;
 use crate::forest::{Forest, Node};
@@ -160,7 +160,7 @@ impl ExprStack {
     fn apply(&mut self, sign: Prefix) -> Result<(), NoMemory>
         requires { 0 < length self.old }
         ensures ok { (front : List Expr) (part : Expr) → self.old ≡ front ++ part ∷ []
-            → OnOk result (self.new ≡ front ++ prefixed sign part ∷ []) }
+            → OnOk result (self.new ≡ front ++ with_prefix sign part ∷ []) }
         ensures err { OnErr result (self.new ≡ self.old) }
     {
         let at = self.roots.len() - 1;
@@ -219,7 +219,7 @@ impl ExprStack {
         requires some { 0 < count }
         requires enough { count ≤ length self.old }
         ensures ok { (front parts : List Expr) → self.old ≡ front ++ parts → length parts ≡ count
-            → OnOk result (self.new ≡ front ++ joined joint parts ∷ []) }
+            → OnOk result (self.new ≡ front ++ join_expressions joint parts ∷ []) }
         ensures err { OnErr result (self.new ≡ self.old) }
     {
         let from = self.roots.len() - count;

@@ -12,7 +12,7 @@ use Rattle.kn_system.specs.Proofs.{IsClosed}
 use Rattle.kn_system.specs.Rows.{SystemRow}
 use Rattle.kn_system.proofs.ProofsDetermine.{closed-stays}
 use Rattle.kn_system.proofs.Settles.{Below-both, least_levels-is_least}
-use Rattle.kn_watch.specs.Watched.{HaveAuthorizers, IsWatchedOf, WatchedLevels, former_system, grown}
+use Rattle.kn_watch.specs.Watched.{HaveAuthorizers, IsWatchedOf, WatchedLevels, former_system, with_system_row}
 use Rattle.kn_watch.proofs.StartLevels.{padded}
 use Rattle.kn_watch.proofs.FormerLevels.{length-least, with_ceiling}
 use Rattle.kn_watch.proofs.Worths.{first-least, least-closed, worth-below}
@@ -33,18 +33,19 @@ first-grown top [] (suc n) = ap (λ ls. 0 ∷ ls) (first-grown top [] n)
 first-grown top (r ∷ requesters) n = ap (λ ls. cond r top 0 ∷ ls) (first-grown top requesters n)
 
 row-old : (s : SystemEquations) (row : SystemRow) (n i : ℕ) → i < length s.rows
-    → row_at (grown s row n).rows i ≡ row_at s.rows i
+    → row_at (with_system_row s row n).rows i ≡ row_at s.rows i
 row-old s row n i within = get_or_append_left s.rows (row ∷ []) (record { authorizer = 0; ceiling = 0; formula = [] })
     i within
 
 first-below : (s : SystemEquations) (row : SystemRow) (n : ℕ) → (i : ℕ)
-    → slice_index (at_first (grown s row n)) i ≡ slice_index (at_first s) i
+    → slice_index (at_first (with_system_row s row n)) i ≡ slice_index (at_first s) i
 first-below s row n i = ap (λ ls. slice_index ls i) (first-grown (s.levels - 1) s.requesters n)
     ∙ padded (at_first s) n i
 
 -- the former levels, and zeros, are closed
 grown-closed : (s : SystemEquations) (row : SystemRow) (n : ℕ) → row.ceiling ≡ 0
-    → HaveAuthorizers (length s.requesters) s.rows → IsClosed (grown s row n) (least_levels s ++ replicate n 0)
+    → HaveAuthorizers (length s.requesters) s.rows
+    → IsClosed (with_system_row s row n) (least_levels s ++ replicate n 0)
 grown-closed s row n low fits = λ i l.
     let least : List ℕ = least_levels s in
     let more : List ℕ = least ++ replicate n 0 in
@@ -59,16 +60,16 @@ grown-closed s row n low fits = λ i l.
           (omega arith)
       | inr past ↦
           let last : length s.rows ≡ i = omega (arith, length_push s.rows row) in
-          let here : row_at (grown s row n).rows i ≡ row =
+          let here : row_at (with_system_row s row n).rows i ≡ row =
           get_or_push s.rows row (record { authorizer = 0; ceiling = 0; formula = [] }) i last in
           subst (λ (r : SystemRow). worth top more r ≤ slice_index more r.authorizer) (sym here) (omega (arith, low))
     ]
 
 -- the later levels are closed for the former rows
 former-closed : (s : SystemEquations) (row : SystemRow) (n : ℕ) → HaveAuthorizers (length s.requesters) s.rows
-    → IsClosed s (least_levels (grown s row n))
+    → IsClosed s (least_levels (with_system_row s row n))
 former-closed s row n fits = λ i l.
-    let t : SystemEquations = grown s row n in
+    let t : SystemEquations = with_system_row s row n in
     let within : i < length t.rows = omega (arith, length_push s.rows row) in
     let same : row_at t.rows i ≡ row_at s.rows i = row-old s row n i l in
     let own : (row_at s.rows i).authorizer < length t.requesters =
@@ -77,9 +78,10 @@ former-closed s row n fits = λ i l.
     (least-closed t i within (subst (λ (r : SystemRow). r.authorizer < length t.requesters) (sym same) own))
 
 pub grown-least : (s : SystemEquations) (row : SystemRow) (n : ℕ) → row.ceiling ≡ 0
-    → HaveAuthorizers (length s.requesters) s.rows → least_levels (grown s row n) ≡ least_levels s ++ replicate n 0
+    → HaveAuthorizers (length s.requesters) s.rows
+    → least_levels (with_system_row s row n) ≡ least_levels s ++ replicate n 0
 grown-least s row n low fits =
-    let t : SystemEquations = grown s row n in
+    let t : SystemEquations = with_system_row s row n in
     let least : List ℕ = least_levels s in
     let more : List ℕ = least ++ replicate n 0 in
     let started : Below (at_first t) more = (λ i.
@@ -140,9 +142,9 @@ length-capped ceilings k (row ∷ rows) = ap suc (length-capped ceilings (suc k)
 
 -- levels that were found before a row was added, and principals that are no requesters
 pub watched-grown : (watched : WatchedLevels) (s : SystemEquations) (row : SystemRow) (n : ℕ) → IsWatchedOf watched s
-    → HaveAuthorizers (length s.requesters) s.rows → IsWatchedOf watched (grown s row n)
+    → HaveAuthorizers (length s.requesters) s.rows → IsWatchedOf watched (with_system_row s row n)
 watched-grown watched s row n is fits =
-    let t : SystemEquations = grown s row n in
+    let t : SystemEquations = with_system_row s row n in
     let old : SystemEquations = former_system watched.ceilings s in
     let l : ℕ = length watched.levels in
     let r : ℕ = length s.requesters in
@@ -151,7 +153,7 @@ watched-grown watched s row n is fits =
     get_or_past watched.ceilings (0 + length s.rows) 0 (omega (arith, is.within)) in
     let rows : capped_from watched.ceilings 0 t.rows ≡ old.rows ++ capped ∷ [] =
     capped-push watched.ceilings 0 s.rows row ∙ ap (λ c. old.rows ++ with_ceiling row c ∷ []) none in
-    let system : former_system watched.ceilings t ≡ grown old capped n =
+    let system : former_system watched.ceilings t ≡ with_system_row old capped n =
     ap (λ (rs : List SystemRow). record { levels = s.levels; requesters = t.requesters; rows = rs }) rows in
     let own : HaveAuthorizers (length s.requesters) old.rows = (λ i within.
     subst (λ a. a < length s.requesters) (sym (capped-authorizer watched.ceilings 0 s.rows i))

@@ -7,7 +7,7 @@ use Rattle.std.proofs.lemmas.Bool.Decides.{nat_tests}
 use Rattle.std.proofs.lemmas.List.{append_assoc, append-nil}
 use Rattle.std.proofs.lemmas.List.Elements.{All-nil, All-cons}
 use Rattle.kn_settle.specs.QuerySystem.{capped_from}
-use Rattle.kn_system.specs.Equations.{SystemEquations, recapped, row_at}
+use Rattle.kn_system.specs.Equations.{SystemEquations, with_row_ceiling, row_at}
 use Rattle.kn_system.specs.Least.{least_levels}
 use Rattle.kn_system.specs.Rows.{SystemRow}
 use Rattle.kn_system.proofs.Settles.{least_levels-is_least}
@@ -129,20 +129,20 @@ watched-now levels ceilings s least are =
     }
 
 capped-recapped : (ceilings : List ℕ) (k : ℕ) (rows : List SystemRow) (i ceiling : ℕ)
-    → capped_from ceilings k (recapped rows i ceiling) ≡ capped_from ceilings k rows
+    → capped_from ceilings k (with_row_ceiling rows i ceiling) ≡ capped_from ceilings k rows
 capped-recapped ceilings k [] i ceiling = refl
 capped-recapped ceilings k (row ∷ rows) zero ceiling = refl
 capped-recapped ceilings k (row ∷ rows) (suc i) ceiling =
     ap (λ rs. with_ceiling row (slice_index ceilings k) ∷ rs) (capped-recapped ceilings (suc k) rows i ceiling)
 
-pub length-recapped : (rows : List SystemRow) (i ceiling : ℕ) → length (recapped rows i ceiling) ≡ length rows
+pub length-recapped : (rows : List SystemRow) (i ceiling : ℕ) → length (with_row_ceiling rows i ceiling) ≡ length rows
 length-recapped [] i ceiling = refl
 length-recapped (row ∷ rows) zero ceiling = refl
 length-recapped (row ∷ rows) (suc i) ceiling = ap suc (length-recapped rows i ceiling)
 
 -- a row with another ceiling
 pub watched-recapped : (watched : WatchedLevels) (s : SystemEquations) (i ceiling : ℕ) → IsWatchedOf watched s
-    → IsWatchedOf watched (record s { rows = recapped s.rows i ceiling })
+    → IsWatchedOf watched (record s { rows = with_row_ceiling s.rows i ceiling })
 watched-recapped watched s i ceiling is = record {
   before = is.before
       ∙ ap (λ (rs : List SystemRow). least_levels (record { levels = s.levels; requesters = s.requesters; rows = rs }))

@@ -2,7 +2,7 @@
 use Rattle.std.specs.Prelude.{ℕ, suc, ◌≡◌, ◌==◌, ◌-◌, ◌<◌, ◌≤◌, false, List, [], ◌∷◌, ◌++◌, length, replicate}
 use Rattle.std.specs.Prelude.{slice_index, if◌then◌else◌}
 use Rattle.kn_settle.specs.QuerySystem.{capped_from}
-use Rattle.kn_system.specs.Equations.{SystemEquations, recapped, row_at}
+use Rattle.kn_system.specs.Equations.{SystemEquations, with_row_ceiling, row_at}
 use Rattle.kn_system.specs.Least.{least_levels}
 use Rattle.kn_system.specs.Rows.{SystemRow}
 use Rattle.kn_watch.specs.declared.changed.Changed.{Changed}
@@ -42,17 +42,18 @@ abbrev pub HaveAuthorizers : ℕ → List SystemRow → Type 0
 HaveAuthorizers n rows = (i : ℕ) → i < length rows → (row_at rows i).authorizer < n
 
 -- the system with a row more, and so many principals that are no requesters
-abbrev pub grown : SystemEquations → SystemRow → ℕ → SystemEquations
-grown s row n = record { levels = s.levels; requesters = s.requesters ++ replicate n false; rows = s.rows ++ row ∷ [] }
+abbrev pub with_system_row : SystemEquations → SystemRow → ℕ → SystemEquations
+with_system_row s row n =
+    record { levels = s.levels; requesters = s.requesters ++ replicate n false; rows = s.rows ++ row ∷ [] }
 
 -- a ceiling may change
 abbrev pub CeilingsMayChange : Type 0
 CeilingsMayChange =
     (watched : WatchedLevels) (s : SystemEquations) (i ceiling : ℕ) → IsWatchedOf watched s
-    → IsWatchedOf watched (record s { rows = recapped s.rows i ceiling })
+    → IsWatchedOf watched (record s { rows = with_row_ceiling s.rows i ceiling })
 
 -- a row may be added, and principals
 abbrev pub RowsMayBeAdded : Type 0
 RowsMayBeAdded =
     (watched : WatchedLevels) (s : SystemEquations) (row : SystemRow) (n : ℕ) → IsWatchedOf watched s
-    → HaveAuthorizers (length s.requesters) s.rows → IsWatchedOf watched (grown s row n)
+    → HaveAuthorizers (length s.requesters) s.rows → IsWatchedOf watched (with_system_row s row n)

@@ -12,7 +12,7 @@ use Rattle.kn_wire.specs.declared.cursor.Cursor.{Cursor}
 use Rattle.kn_wire.specs.declared.cursor.Stage.TheVariants as S
 use Rattle.kn_wire.specs.Cursors.{IsSound, held_at, held_by}
 use Rattle.kn_wire.specs.Firsts.{HasNoneBelow}
-use Rattle.kn_wire.specs.Feeding.{Held, Bytes, InLong, next_of, pushed, held_after}
+use Rattle.kn_wire.specs.Feeding.{Held, Bytes, InLong, next_of, with_piece, held_after}
 use Rattle.kn_wire.specs.Requests.{Request, Line, Whole, WithBlock, Faulty, first_of, first_of_line, first_of_block}
 use Rattle.kn_wire.specs.Requests.{line_of, line_length, without_return, is_newline}
 use Rattle.kn_wire.proofs.Firsts.{after_first_of}
@@ -140,7 +140,8 @@ none_longer needed text piece none more fewer =
 
 -- A piece of a long line.
 
-pub skips_all : (piece : List ℕ) (end : ℕ) → end ≡ line_length piece → end ≡ length piece → InLong ≡ pushed InLong piece
+pub skips_all : (piece : List ℕ) (end : ℕ) → end ≡ line_length piece → end ≡ length piece
+    → InLong ≡ with_piece InLong piece
 skips_all piece end ends all = by (list_any is_newline piece) refl
   where
     by : (t : Bool) → list_any is_newline piece ≡ t
@@ -149,7 +150,7 @@ skips_all piece end ends all = by (list_any is_newline piece) refl
     by false any = sym (ap (λ t. if t then Bytes (after_first is_newline piece) else InLong) any)
 
 pub skips_line : (piece : List ℕ) (end : ℕ) → end ≡ line_length piece → end < length piece
-    → Bytes (drop (end + 1) piece) ≡ pushed InLong piece
+    → Bytes (drop (end + 1) piece) ≡ with_piece InLong piece
 skips_line piece end ends within = by (list_any is_newline piece) refl
   where
     by : (t : Bool) → list_any is_newline piece ≡ t
@@ -199,11 +200,11 @@ sound_longer cursor bytes more sound =
     }
 
 pub held_longer : (cursor : Cursor) (bytes more : List ℕ) → cursor.stage ≡ S.Reading → cursor.from ≤ length bytes
-    → held_at cursor (bytes ++ more) ≡ pushed (held_at cursor bytes) more
+    → held_at cursor (bytes ++ more) ≡ with_piece (held_at cursor bytes) more
 held_longer cursor bytes more reading within =
     ap (λ stage. held_by stage (drop cursor.from (bytes ++ more))) reading
     ∙ ap Bytes (drop-append-le cursor.from bytes more within)
-    ∙ ap (λ stage. pushed (held_by stage (drop cursor.from bytes)) more) (sym reading)
+    ∙ ap (λ stage. with_piece (held_by stage (drop cursor.from bytes)) more) (sym reading)
 
 -- nothing is next before so many bytes came
 pub fewer_held : (cursor : Cursor) (bytes : List ℕ) (needed : ℕ) → cursor.stage ≡ S.Reading

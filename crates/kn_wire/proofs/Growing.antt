@@ -12,7 +12,7 @@ use Rattle.std.proofs.lemmas.Grind.{common_steps}
 use Rattle.kn_wire.specs.declared.fault.WireFault.TheVariants.{Long, Block}
 use Rattle.kn_wire.specs.Requests.{Request, Line, Takes, Whole, WithBlock, Faulty, first_of, first_of_line}
 use Rattle.kn_wire.specs.Requests.{first_of_block, line_of, line_length, without_return, is_newline}
-use Rattle.kn_wire.specs.Feeding.{Held, Bytes, InLong, Shut, held_bytes, pushed, held_after, next_of, is_shut}
+use Rattle.kn_wire.specs.Feeding.{Held, Bytes, InLong, Shut, held_bytes, with_piece, held_after, next_of, is_shut}
 use Rattle.kn_wire.proofs.LineFits.{IsKeptLine, kept-line}
 
 pub no_request : {X : Type 0} (first : X) → None ≡ Some first → ⊥
@@ -118,7 +118,7 @@ none-first text short no_end =
 
 -- what is left of a longer text, where this was the first request of a text
 Longer : List ℕ → List ℕ → Request × List ℕ → Request × List ℕ
-Longer text more first = (first.0, held_bytes (pushed (held_after text first.0 first.1) more))
+Longer text more first = (first.0, held_bytes (with_piece (held_after text first.0 first.1) more))
 
 long-left : (text more : List ℕ) → 8192 < line_length text
     → after_first is_newline (text ++ more) ≡ (Longer text more (Faulty Long, after_first is_newline text)).1
@@ -126,7 +126,7 @@ unfolding Longer
 long-left text more long = by (list_any is_newline text) refl
   where
     left : Bool → List ℕ
-    left t = held_bytes (pushed (if t then Bytes (after_first is_newline text) else InLong) more)
+    left t = held_bytes (with_piece (if t then Bytes (after_first is_newline text) else InLong) more)
 
     in_long : (t : Bool) → list_any is_newline more ≡ t
         → after_first is_newline more ≡ held_bytes (if t then Bytes (after_first is_newline more) else InLong)
@@ -179,7 +179,7 @@ block-grows n request text rest more (Some b) first kept there e =
         ap (λ block. Some (request block, drop (n + 1) (rest ++ more)))
         (take-append-le n rest more (omega (arith, within)))
         ∙ ap (λ left. Some (request (take n rest), left)) (drop-append-le (n + 1) rest more (omega (arith, within)))
-        ∙ ap (λ h. Some (request (take n rest), held_bytes (pushed h more)))
+        ∙ ap (λ h. Some (request (take n rest), held_bytes (with_piece h more)))
         (sym (kept (take n rest) (drop (n + 1) rest)))
         ∙ ap (λ f. Some (Longer text more f)) same
     by false e = ap (λ f. Some (Longer text more f)) (same_first (Faulty (Block n), []) first e)
@@ -189,7 +189,7 @@ line-grows : (line : Line) (text rest more : List ℕ) (first : Request × List 
     → first_of_line line (rest ++ more) ≡ Some (Longer text more first)
 unfolding Longer
 line-grows (Whole request) text rest more first kept e =
-    ap (λ h. Some (request, held_bytes (pushed h more))) (sym (kept text rest))
+    ap (λ h. Some (request, held_bytes (with_piece h more))) (sym (kept text rest))
     ∙ ap (λ f. Some (Longer text more f)) (same_first (request, rest) first e)
 line-grows (WithBlock n request) text rest more first kept e = by (nat_lt 16384 n) e
   where
@@ -238,17 +238,17 @@ spent text first = (first.0, held_after text first.0 first.1)
 
 pub next-grows : (held after : Held) (request : Request) (more : List ℕ) → is_shut held ≡ false
     → next_of held ≡ Some (request, after)
-    → first_of (held_bytes (pushed held more)) ≡ Some (request, held_bytes (pushed after more))
+    → first_of (held_bytes (with_piece held more)) ≡ Some (request, held_bytes (with_piece after more))
 unfolding Longer
 next-grows (Bytes text) after request more shut e = by (first_of text) refl e
   where
     by : (first : Option (Request × List ℕ)) → first_of text ≡ first
         → option_map (spent text) first ≡ Some (request, after)
-        → first_of (text ++ more) ≡ Some (request, held_bytes (pushed after more))
+        → first_of (text ++ more) ≡ Some (request, held_bytes (with_piece after more))
     by None there e = absurd (no_request (request, after) e)
     by (Some first) there e =
         first-grows text more first there
-        ∙ ap (λ (p : Request × Held). Some (p.0, held_bytes (pushed p.1 more)))
+        ∙ ap (λ (p : Request × Held). Some (p.0, held_bytes (with_piece p.1 more)))
         (same_first (first.0, held_after text first.0 first.1) (request, after) e)
 next-grows InLong after request more shut e = absurd (no_request (request, after) e)
 next-grows (Shut n) after request more shut e = cc
@@ -323,7 +323,7 @@ requests-grow text more (request ∷ next ∷ requests) rest (mid, here, later) 
       (
         mid ++ more,
         first-grows text more (request, mid) here
-            ∙ ap (λ h. Some (request, held_bytes (pushed h more))) kept,
+            ∙ ap (λ h. Some (request, held_bytes (with_piece h more))) kept,
         grown.1,
       ),
     )
@@ -331,7 +331,7 @@ requests-grow text more (request ∷ next ∷ requests) rest (mid, here, later) 
 
 -- one piece after the other is both at once
 pub pushed-pushed : (held : Held) (piece more : List ℕ)
-    → held_bytes (pushed (pushed held piece) more) ≡ held_bytes (pushed held (piece ++ more))
+    → held_bytes (with_piece (with_piece held piece) more) ≡ held_bytes (with_piece held (piece ++ more))
 pushed-pushed (Bytes text) piece more = append_assoc text piece more
 pushed-pushed (Shut n) piece more = refl
 pushed-pushed InLong piece more = by (list_any is_newline piece) (list_any is_newline more) refl refl
@@ -347,24 +347,25 @@ pushed-pushed InLong piece more = by (list_any is_newline piece) (list_any is_ne
         each false any = sym (open-left text (open-length text any))
 
     by : (p m : Bool) → list_any is_newline piece ≡ p → list_any is_newline more ≡ m
-        → held_bytes (pushed (if list_any is_newline piece then Bytes (after_first is_newline piece) else InLong) more)
+        → held_bytes (with_piece (if list_any is_newline piece then Bytes (after_first is_newline piece) else InLong)
+        more)
         ≡ outcome (list_any is_newline (piece ++ more)) (piece ++ more)
     by true m any_p any_m =
-        ap (λ t. held_bytes (pushed (if t then Bytes (after_first is_newline piece) else InLong) more)) any_p
+        ap (λ t. held_bytes (with_piece (if t then Bytes (after_first is_newline piece) else InLong) more)) any_p
         ∙ sym (ended-after piece more (ended-length piece any_p))
         ∙ sym (all_left (piece ++ more))
     by false m any_p any_m =
-        ap (λ t. held_bytes (pushed (if t then Bytes (after_first is_newline piece) else InLong) more)) any_p
+        ap (λ t. held_bytes (with_piece (if t then Bytes (after_first is_newline piece) else InLong) more)) any_p
         ∙ all_left more
         ∙ sym (open-after piece more (open-length piece any_p))
         ∙ sym (all_left (piece ++ more))
 
-pub pushed-nothing : (held : Held) → held_bytes (pushed held []) ≡ held_bytes held
+pub pushed-nothing : (held : Held) → held_bytes (with_piece held []) ≡ held_bytes held
 pushed-nothing (Bytes text) = append-nil text
 pushed-nothing InLong = refl
 pushed-nothing (Shut n) = refl
 
-pub pushed-not_shut : (held : Held) (piece : List ℕ) → is_shut held ≡ false → is_shut (pushed held piece) ≡ false
+pub pushed-not_shut : (held : Held) (piece : List ℕ) → is_shut held ≡ false → is_shut (with_piece held piece) ≡ false
 pushed-not_shut (Bytes text) piece h = refl
 pushed-not_shut InLong piece h = by (list_any is_newline piece)
   where

@@ -5,7 +5,7 @@ use Rattle.std.specs.List.{before_first}
 use Rattle.kn_base.specs.Decimal.{decimal_of}
 use Rattle.kn_wire.specs.Lines.{blocked_of}
 use Rattle.kn_wire.specs.Requests.{Request, Add, Assert, Batch, Line, WithBlock, behind_space, is_space, line_of}
-use Rattle.kn_wire.specs.Requests.{number_and_rest, or_malformed, sized, with_number}
+use Rattle.kn_wire.specs.Requests.{number_and_rest, or_malformed, size_line, with_number}
 use Rattle.kn_wire.proofs.LineFits.{NamesNone, whole-line}
 use Rattle.kn_wire.proofs.Splits.{split_line}
 
@@ -25,21 +25,22 @@ blocked-and_then : {A : Type 0} (o : Option A) (f : A → Option Line) → ((a :
 blocked-and_then None f each = refl
 blocked-and_then (Some a) f each = each a
 
-sized_blocked : (request : List ℕ → Request) (text : List ℕ) → AllBlocked (sized request text)
+sized_blocked : (request : List ℕ → Request) (text : List ℕ) → AllBlocked (size_line request text)
 sized_blocked request text = blocked-map (decimal_of text) (λ n. n) (λ n. request)
 
-assert_blocked : (text : List ℕ) → AllBlocked (with_number (λ s. sized (Assert s)) text)
+assert_blocked : (text : List ℕ) → AllBlocked (with_number (λ s. size_line (Assert s)) text)
 assert_blocked text = blocked-and_then (number_and_rest text) _ (λ parts. sized_blocked (Assert parts.0) parts.1)
 
 -- what follows the command is what the line names
-pub names_add : (line text : List ℕ) → line ≡ codes "ADD " ++ text → sized Add text ≡ blocked_of (line_of line)
+pub names_add : (line text : List ℕ) → line ≡ codes "ADD " ++ text → size_line Add text ≡ blocked_of (line_of line)
 names_add line text is = sized_blocked Add text ∙ ap (λ l. blocked_of (line_of l)) (sym is)
 
 pub names_assert : (line text : List ℕ) → line ≡ codes "ASSERT " ++ text
-    → with_number (λ s. sized (Assert s)) text ≡ blocked_of (line_of line)
+    → with_number (λ s. size_line (Assert s)) text ≡ blocked_of (line_of line)
 names_assert line text is = assert_blocked text ∙ ap (λ l. blocked_of (line_of l)) (sym is)
 
-pub names_batch : (line text : List ℕ) → line ≡ codes "BATCH " ++ text → sized Batch text ≡ blocked_of (line_of line)
+pub names_batch : (line text : List ℕ) → line ≡ codes "BATCH " ++ text
+    → size_line Batch text ≡ blocked_of (line_of line)
 names_batch line text is = sized_blocked Batch text ∙ ap (λ l. blocked_of (line_of l)) (sym is)
 
 -- A line that doesn't.

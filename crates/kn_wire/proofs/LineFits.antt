@@ -16,8 +16,10 @@ use Rattle.kn_wire.specs.Lines.{blocked_of}
 use Rattle.kn_wire.specs.Requests.{Request, Open, Close, Pin, Assert, Retract, Set, SetHex, Unset, Auth, Unauth, Clear}
 use Rattle.kn_wire.specs.Requests.{Query, Watch, News, Unwatch, Critical, Admin, Add, Drop, Batch, PinAt, Log, Bye}
 use Rattle.kn_wire.specs.Requests.{Faulty, Line, Whole, WithBlock, behind_space, number_after, number_and_rest}
-use Rattle.kn_wire.specs.Requests.{name_and_rest, is_space, is_word, is_hex, when, numbered, lettered, sized, named}
-use Rattle.kn_wire.specs.Requests.{named_hex, with_number, numbered_text, pin_line, admin_line, or_malformed, alone}
+use Rattle.kn_wire.specs.Requests.{name_and_rest, is_space, is_word, is_hex, when, number_line, letter_line, size_line}
+use Rattle.kn_wire.specs.Requests.{name_line}
+use Rattle.kn_wire.specs.Requests.{name_hex_line, with_number, number_text_line, pin_line, admin_line, or_malformed}
+use Rattle.kn_wire.specs.Requests.{alone}
 use Rattle.kn_wire.specs.Requests.{behind, line_of_command, line_of}
 use Rattle.kn_wire.specs.Wired.{request_of, request_or_fault}
 
@@ -102,21 +104,21 @@ behind-fits word rest form each =
 -- a number alone
 of-numbered : (word : List ℕ) (rest : Option (List ℕ)) (request : ℕ → Request) (text : List ℕ)
     → ((n : ℕ) → IsKept (request n)) → ((n : ℕ) → IsWellFormed (request n))
-    → OfSome (Fits word rest) (numbered request text)
+    → OfSome (Fits word rest) (number_line request text)
 of-numbered word rest request text kept form =
     of-map (Fits word rest) (decimal_of text) (λ n. Whole (request n))
     (λ n. whole-fits word rest (request n) (kept n) (form n))
 
 numbered-fits : (word : List ℕ) (rest : Option (List ℕ)) (request : ℕ → Request)
     → ((n : ℕ) → IsKept (request n)) → ((n : ℕ) → IsWellFormed (request n))
-    → Fits word rest (behind (numbered request) rest)
+    → Fits word rest (behind (number_line request) rest)
 numbered-fits word rest request kept form =
-    behind-fits word rest (numbered request) (λ text. of-numbered word rest request text kept form)
+    behind-fits word rest (number_line request) (λ text. of-numbered word rest request text kept form)
 
 -- a letter and a number
 of-lettered : (word : List ℕ) (rest : Option (List ℕ)) (letter : ℕ) (request : ℕ → Request) (text : List ℕ)
     → ((n : ℕ) → IsKept (request n)) → ((n : ℕ) → IsWellFormed (request n))
-    → OfSome (Fits word rest) (lettered letter request text)
+    → OfSome (Fits word rest) (letter_line letter request text)
 of-lettered word rest letter request text kept form =
     of-map (Fits word rest) (number_after letter text) (λ n. Whole (request n))
     (λ n. whole-fits word rest (request n) (kept n) (form n))
@@ -125,37 +127,38 @@ of-lettered word rest letter request text kept form =
 text-fits : (word : List ℕ) (rest : Option (List ℕ)) (request : ℕ → List ℕ → Request)
     → ((n : ℕ) (more : List ℕ) → IsKept (request n more))
     → ((n : ℕ) (more : List ℕ) → IsWellFormed (request n more))
-    → Fits word rest (behind (numbered_text request) rest)
+    → Fits word rest (behind (number_text_line request) rest)
 text-fits word rest request kept form =
-    behind-fits word rest (numbered_text request) (λ text. of-number (Fits word rest) text _
+    behind-fits word rest (number_text_line request) (λ text. of-number (Fits word rest) text _
     (λ n more. whole-fits word rest (request n more) (kept n more) (form n more)))
 
 pin-fits : (word : List ℕ) (rest : Option (List ℕ)) → Fits word rest (behind pin_line rest)
 pin-fits word rest =
     behind-fits word rest pin_line (λ text.
-    of-or (Fits word rest) (numbered Pin text) (with_number (λ s. numbered (PinAt s)) text)
+    of-or (Fits word rest) (number_line Pin text) (with_number (λ s. number_line (PinAt s)) text)
     (of-numbered word rest Pin text (λ s t l. refl) (λ s. tt))
     (of-number (Fits word rest) text _
     (λ s more. of-numbered word rest (PinAt s) more (λ v t l. refl) (λ v. tt))))
 
 retract-fits : (word : List ℕ) (rest : Option (List ℕ))
-    → Fits word rest (behind (with_number (λ s. lettered 112 (Retract s))) rest)
+    → Fits word rest (behind (with_number (λ s. letter_line 112 (Retract s))) rest)
 retract-fits word rest =
     behind-fits word rest _ (λ text. of-number (Fits word rest) text _
     (λ s more. of-lettered word rest 112 (Retract s) more (λ k t l. refl) (λ k. tt)))
 
-drop-fits : (word : List ℕ) (rest : Option (List ℕ)) → Fits word rest (behind (lettered 97 Drop) rest)
+drop-fits : (word : List ℕ) (rest : Option (List ℕ)) → Fits word rest (behind (letter_line 97 Drop) rest)
 drop-fits word rest =
     behind-fits word rest _ (λ text. of-lettered word rest 97 Drop text (λ k t l. refl) (λ k. tt))
 
-set-fits : (word : List ℕ) (rest : Option (List ℕ)) → Fits word rest (behind (with_number (λ s. named (Set s))) rest)
+set-fits : (word : List ℕ) (rest : Option (List ℕ))
+    → Fits word rest (behind (with_number (λ s. name_line (Set s))) rest)
 set-fits word rest =
     behind-fits word rest _ (λ text. of-number (Fits word rest) text _
     (λ s more. of-map (Fits word rest) (name_and_rest more) _
     (λ parts. whole-fits word rest (Set s parts.0 parts.1) (λ t l. refl) tt)))
 
 set_hex-fits : (word : List ℕ) (rest : Option (List ℕ))
-    → Fits word rest (behind (with_number (λ s. named_hex (SetHex s))) rest)
+    → Fits word rest (behind (with_number (λ s. name_hex_line (SetHex s))) rest)
 set_hex-fits word rest =
     behind-fits word rest _ (λ text. of-number (Fits word rest) text _
     (λ s more. of-and_then (Fits word rest) (name_and_rest more) _
@@ -183,7 +186,7 @@ IsBlocked word = (word ≢ codes "ADD") × (word ≢ codes "ASSERT") × (word �
 of-sized : (word text : List ℕ) (request : List ℕ → Request) (more : List ℕ) → IsBlocked word
     → ((block : List ℕ) → IsKept (request block))
     → ((block : List ℕ) → length block ≤ 16384 → IsWellFormed (request block))
-    → OfSome (Fits word (Some text)) (sized request more)
+    → OfSome (Fits word (Some text)) (size_line request more)
 of-sized word text request more is kept form =
     of-map (Fits word (Some text)) (decimal_of more) (λ n. WithBlock n request)
     (λ n. record { kept = kept; form = form; whole = whole n })
@@ -195,16 +198,16 @@ of-sized word text request more is kept form =
 sized-fits : (word : List ℕ) (rest : Option (List ℕ)) (request : List ℕ → Request) → IsBlocked word
     → ((block : List ℕ) → IsKept (request block))
     → ((block : List ℕ) → length block ≤ 16384 → IsWellFormed (request block))
-    → Fits word rest (behind (sized request) rest)
+    → Fits word rest (behind (size_line request) rest)
 sized-fits word None request is kept form = whole-fits word None (Faulty Syntax) (λ t l. refl) tt
 sized-fits word (Some text) request is kept form =
-    malformed-fits word (Some text) (sized request text) (of-sized word text request text is kept form)
+    malformed-fits word (Some text) (size_line request text) (of-sized word text request text is kept form)
 
 assert-fits : (word : List ℕ) (rest : Option (List ℕ)) → IsBlocked word
-    → Fits word rest (behind (with_number (λ s. sized (Assert s))) rest)
+    → Fits word rest (behind (with_number (λ s. size_line (Assert s))) rest)
 assert-fits word None is = whole-fits word None (Faulty Syntax) (λ t l. refl) tt
 assert-fits word (Some text) is =
-    malformed-fits word (Some text) (with_number (λ s. sized (Assert s)) text)
+    malformed-fits word (Some text) (with_number (λ s. size_line (Assert s)) text)
     (of-number (Fits word (Some text)) text _
     (λ s more. of-sized word text (Assert s) more is (λ block t l. refl) (λ block short. short)))
 

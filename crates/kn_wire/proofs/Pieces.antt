@@ -2,32 +2,33 @@
 use Rattle.std.proofs.Common.{◌≡◌, ℕ, inl, inr, List, [], ◌∷◌, ◌++◌, flat_map, refl, sym, ap, ◌∙◌, subst, None}
 use Rattle.std.proofs.Common.{append_assoc, append-nil}
 use Rattle.kn_wire.specs.Requests.{Request, Takes, AreRequests, first_of}
-use Rattle.kn_wire.specs.Feeding.{Held, Bytes, InLong, Shut, held_bytes, pushed}
+use Rattle.kn_wire.specs.Feeding.{Held, Bytes, InLong, Shut, held_bytes, with_piece}
 use Rattle.kn_wire.specs.Pieces.{Taken, IsAtRest, Pieced}
 use Rattle.kn_wire.proofs.Growing.{next-grows, pushed-pushed, pushed-nothing, none-left}
 use Rattle.kn_wire.proofs.Readings.{takes-push}
 
 -- whatever more bytes come, these are the first requests of what was taken
 abbrev AreFirst : List ℕ → List Request → Held → Type 0
-AreFirst text requests held = (more : List ℕ) → Takes (text ++ more) requests (held_bytes (pushed held more))
+AreFirst text requests held = (more : List ℕ) → Takes (text ++ more) requests (held_bytes (with_piece held more))
 
 first-taken : (text : List ℕ) (requests : List Request) (held : Held) (others : List Request) (new : Held)
     → AreFirst text requests held → Taken held others new → AreFirst text (requests ++ others) new
 first-taken text requests held [] new first taken =
-    λ more. subst (λ rs. Takes (text ++ more) rs (held_bytes (pushed new more))) (sym (append-nil requests))
-    (subst (λ h. Takes (text ++ more) requests (held_bytes (pushed h more))) (sym taken) (first more))
+    λ more. subst (λ rs. Takes (text ++ more) rs (held_bytes (with_piece new more))) (sym (append-nil requests))
+    (subst (λ h. Takes (text ++ more) requests (held_bytes (with_piece h more))) (sym taken) (first more))
 first-taken text requests held (request ∷ others) new first (mid, not_shut, next, later) =
     let one : AreFirst text (requests ++ request ∷ []) mid = λ more.
-    takes-push (text ++ more) requests (held_bytes (pushed held more)) request (held_bytes (pushed mid more))
+    takes-push (text ++ more) requests (held_bytes (with_piece held more)) request (held_bytes (with_piece mid more))
     (first more) (next-grows held mid request more not_shut next) in
-    λ more. subst (λ rs. Takes (text ++ more) rs (held_bytes (pushed new more)))
+    λ more. subst (λ rs. Takes (text ++ more) rs (held_bytes (with_piece new more)))
     (append_assoc requests (request ∷ []) others)
     (first-taken text (requests ++ request ∷ []) mid others new one later more)
 
 first-pushed : (text : List ℕ) (requests : List Request) (held : Held) (piece : List ℕ) → AreFirst text requests held
-    → AreFirst (text ++ piece) requests (pushed held piece)
+    → AreFirst (text ++ piece) requests (with_piece held piece)
 first-pushed text requests held piece first = λ more.
-    subst (λ t. Takes t requests (held_bytes (pushed (pushed held piece) more))) (sym (append_assoc text piece more))
+    subst (λ t. Takes t requests (held_bytes (with_piece (with_piece held piece) more)))
+    (sym (append_assoc text piece more))
     (subst (Takes (text ++ (piece ++ more)) requests) (sym (pushed-pushed held piece more)) (first (piece ++ more)))
 
 at_rest-none : (held : Held) → IsAtRest held → first_of (held_bytes held) ≡ None
@@ -48,7 +49,7 @@ pieced text requests held [] others new first (taken, at_rest) =
     }
 pieced text requests held (piece ∷ pieces) others new first (now, later, mid, cut, taken, at_rest, rest) =
     let all = first-taken text requests held now mid first taken in
-    let more = pieced (text ++ piece) (requests ++ now) (pushed mid piece) pieces later new
+    let more = pieced (text ++ piece) (requests ++ now) (with_piece mid piece) pieces later new
     (first-pushed text (requests ++ now) mid piece all) rest in
     subst (λ rs. AreRequests (text ++ flat_map (λ p. p) (piece ∷ pieces)) rs (held_bytes new))
     (append_assoc requests now later ∙ ap (λ rs. requests ++ rs) (sym cut))

@@ -26,10 +26,10 @@ is_shut InLong = false
 is_shut (Shut n) = true
 
 -- one more piece
-abbrev pub pushed : Held → List ℕ → Held
-pushed (Bytes text) piece = Bytes (text ++ piece)
-pushed InLong piece = if list_any is_newline piece then Bytes (after_first is_newline piece) else InLong
-pushed (Shut n) piece = Shut n
+abbrev pub with_piece : Held → List ℕ → Held
+with_piece (Bytes text) piece = Bytes (text ++ piece)
+with_piece InLong piece = if list_any is_newline piece then Bytes (after_first is_newline piece) else InLong
+with_piece (Shut n) piece = Shut n
 
 -- what is held after this fault was the first of a text, and this was left
 abbrev pub held_after_fault : List ℕ → WireFault → List ℕ → Held

@@ -3,13 +3,13 @@ use Rattle.std.specs.Prelude.{ℕ, ◌≡◌, ◌≤◌, List, [], length, Resul
 use Rattle.kn_outside.specs.declared.failed.Failed.{Failed}
 use Rattle.kn_outside.specs.Reading.{Reads, Fails}
 use Rattle.kn_outside.specs.Seen.{LinkSeen}
-use Rattle.kn_wire.specs.Feeding.{Held, pushed}
+use Rattle.kn_wire.specs.Feeding.{Held, with_piece}
 
 -- a piece of so many bytes was read and added; there is none only at the end of the input
 pub record AddsPiece (old new : Held) (l l' : LinkSeen) (bytes : ℕ) : Type 0 where
   pub piece : List ℕ
   pub size : length piece ≡ bytes
-  pub added : new ≡ pushed old piece
+  pub added : new ≡ with_piece old piece
   pub read : Reads piece l l'
   pub over : bytes ≡ 0 → IfSome l'.left (λ left. left ≡ [])
 

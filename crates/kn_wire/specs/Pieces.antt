@@ -1,7 +1,7 @@
 -- A stream of requests that comes in pieces (keynoted's own).
 use Rattle.std.specs.Prelude.{ℕ, ◌≡◌, ◌⊎◌, true, false, List, [], ◌∷◌, ◌++◌, Some, None}
 use Rattle.kn_wire.specs.Requests.{Request}
-use Rattle.kn_wire.specs.Feeding.{Held, pushed, next_of, is_shut}
+use Rattle.kn_wire.specs.Feeding.{Held, with_piece, next_of, is_shut}
 
 -- these requests are taken one after the other; then this is held
 abbrev pub Taken : Held → List Request → Held → Type 0
@@ -17,4 +17,5 @@ IsAtRest held = (is_shut held ≡ true) ⊎ (next_of held ≡ None)
 abbrev pub Pieced : Held → List (List ℕ) → List Request → Held → Type 0
 Pieced held [] requests new = Taken held requests new × IsAtRest new
 Pieced held (piece ∷ pieces) requests new = (first : List Request) × (others : List Request) × (mid : Held)
-    × (requests ≡ first ++ others) × Taken held first mid × IsAtRest mid × Pieced (pushed mid piece) pieces others new
+    × (requests ≡ first ++ others) × Taken held first mid × IsAtRest mid
+    × Pieced (with_piece mid piece) pieces others new

@@ -119,36 +119,37 @@ when b request = if b then Some (Whole request) else None
 -- Forms of what stands behind a command word and its space. A form gives the line of a text that has it.
 
 -- a number alone
-abbrev pub numbered : (ℕ → Request) → List ℕ → Option Line
-numbered request text = option_map (λ n. Whole (request n)) (decimal_of text)
+abbrev pub number_line : (ℕ → Request) → List ℕ → Option Line
+number_line request text = option_map (λ n. Whole (request n)) (decimal_of text)
 
 -- a letter and a number
-abbrev pub lettered : ℕ → (ℕ → Request) → List ℕ → Option Line
-lettered letter request text = option_map (λ k. Whole (request k)) (number_after letter text)
+abbrev pub letter_line : ℕ → (ℕ → Request) → List ℕ → Option Line
+letter_line letter request text = option_map (λ k. Whole (request k)) (number_after letter text)
 
 -- how many bytes a block has
-abbrev pub sized : (List ℕ → Request) → List ℕ → Option Line
-sized request text = option_map (λ n. WithBlock n request) (decimal_of text)
+abbrev pub size_line : (List ℕ → Request) → List ℕ → Option Line
+size_line request text = option_map (λ n. WithBlock n request) (decimal_of text)
 
 -- a name and a value
-abbrev pub named : (List ℕ → List ℕ → Request) → List ℕ → Option Line
-named request text = option_map (λ parts. Whole (request parts.0 parts.1)) (name_and_rest text)
+abbrev pub name_line : (List ℕ → List ℕ → Request) → List ℕ → Option Line
+name_line request text = option_map (λ parts. Whole (request parts.0 parts.1)) (name_and_rest text)
 
 -- a name and hexadecimal digits
-abbrev pub named_hex : (List ℕ → List ℕ → Request) → List ℕ → Option Line
-named_hex request text = option_and_then (λ parts. when (is_hex parts.1) (request parts.0 parts.1)) (name_and_rest text)
+abbrev pub name_hex_line : (List ℕ → List ℕ → Request) → List ℕ → Option Line
+name_hex_line request text =
+    option_and_then (λ parts. when (is_hex parts.1) (request parts.0 parts.1)) (name_and_rest text)
 
 -- a number and a space, and a text of the form that the number gives
 abbrev pub with_number : (ℕ → List ℕ → Option Line) → List ℕ → Option Line
 with_number form text = option_and_then (λ parts. form parts.0 parts.1) (number_and_rest text)
 
 -- a number and a space, and any text
-abbrev pub numbered_text : (ℕ → List ℕ → Request) → List ℕ → Option Line
-numbered_text request text = with_number (λ n more. Some (Whole (request n more))) text
+abbrev pub number_text_line : (ℕ → List ℕ → Request) → List ℕ → Option Line
+number_text_line request text = with_number (λ n more. Some (Whole (request n more))) text
 
 -- a session alone, or with the number of a version
 abbrev pub pin_line : List ℕ → Option Line
-pin_line text = option_or (numbered Pin text) (with_number (λ s. numbered (PinAt s)) text)
+pin_line text = option_or (number_line Pin text) (with_number (λ s. number_line (PinAt s)) text)
 
 -- digits, at least two
 abbrev pub admin_line : List ℕ → Option Line
@@ -174,26 +175,26 @@ behind form rest = or_malformed (option_and_then form rest)
 abbrev pub line_of_command : List ℕ → Option (List ℕ) → Line
 line_of_command word rest =
     if bytes_eq word (codes "OPEN") then alone Open rest
-    else if bytes_eq word (codes "CLOSE") then behind (numbered Close) rest
+    else if bytes_eq word (codes "CLOSE") then behind (number_line Close) rest
     else if bytes_eq word (codes "PIN") then behind pin_line rest
-    else if bytes_eq word (codes "ASSERT") then behind (with_number (λ s. sized (Assert s))) rest
-    else if bytes_eq word (codes "RETRACT") then behind (with_number (λ s. lettered 112 (Retract s))) rest
-    else if bytes_eq word (codes "SET") then behind (with_number (λ s. named (Set s))) rest
-    else if bytes_eq word (codes "SETX") then behind (with_number (λ s. named_hex (SetHex s))) rest
+    else if bytes_eq word (codes "ASSERT") then behind (with_number (λ s. size_line (Assert s))) rest
+    else if bytes_eq word (codes "RETRACT") then behind (with_number (λ s. letter_line 112 (Retract s))) rest
+    else if bytes_eq word (codes "SET") then behind (with_number (λ s. name_line (Set s))) rest
+    else if bytes_eq word (codes "SETX") then behind (with_number (λ s. name_hex_line (SetHex s))) rest
     else if bytes_eq word (codes "UNSET") then behind (with_number (λ s name. when (is_word name) (Unset s name))) rest
-    else if bytes_eq word (codes "AUTH") then behind (numbered_text Auth) rest
-    else if bytes_eq word (codes "UNAUTH") then behind (numbered_text Unauth) rest
-    else if bytes_eq word (codes "CLEAR") then behind (numbered Clear) rest
-    else if bytes_eq word (codes "QUERY") then behind (numbered_text Query) rest
-    else if bytes_eq word (codes "WATCH") then behind (numbered_text Watch) rest
-    else if bytes_eq word (codes "NEWS") then behind (numbered News) rest
-    else if bytes_eq word (codes "UNWATCH") then behind (numbered Unwatch) rest
-    else if bytes_eq word (codes "CRITICAL") then behind (numbered_text Critical) rest
+    else if bytes_eq word (codes "AUTH") then behind (number_text_line Auth) rest
+    else if bytes_eq word (codes "UNAUTH") then behind (number_text_line Unauth) rest
+    else if bytes_eq word (codes "CLEAR") then behind (number_line Clear) rest
+    else if bytes_eq word (codes "QUERY") then behind (number_text_line Query) rest
+    else if bytes_eq word (codes "WATCH") then behind (number_text_line Watch) rest
+    else if bytes_eq word (codes "NEWS") then behind (number_line News) rest
+    else if bytes_eq word (codes "UNWATCH") then behind (number_line Unwatch) rest
+    else if bytes_eq word (codes "CRITICAL") then behind (number_text_line Critical) rest
     else if bytes_eq word (codes "ADMIN") then behind admin_line rest
-    else if bytes_eq word (codes "ADD") then behind (sized Add) rest
-    else if bytes_eq word (codes "DROP") then behind (lettered 97 Drop) rest
-    else if bytes_eq word (codes "BATCH") then behind (sized Batch) rest
-    else if bytes_eq word (codes "LOG") then behind (numbered Log) rest
+    else if bytes_eq word (codes "ADD") then behind (size_line Add) rest
+    else if bytes_eq word (codes "DROP") then behind (letter_line 97 Drop) rest
+    else if bytes_eq word (codes "BATCH") then behind (size_line Batch) rest
+    else if bytes_eq word (codes "LOG") then behind (number_line Log) rest
     else if bytes_eq word (codes "BYE") then alone Bye rest
     else Whole (Faulty Command)
 

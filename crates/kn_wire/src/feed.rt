@@ -49,7 +49,7 @@ impl Feed {
     ghost use Rattle.kn_wire.specs.Hex.{IsWellFormed};
     ghost use Rattle.kn_wire.specs.Wired.{request_of, request_or_fault};
     ghost use mathlib.Core.Option.{none};
-    ghost use Rattle.kn_wire.specs.Feeding.{Bytes, pushed, next_of, held_bytes};
+    ghost use Rattle.kn_wire.specs.Feeding.{Bytes, with_piece, next_of, held_bytes};
     ghost use Rattle.kn_wire.specs.Filling.{IsFilled};
     ghost use Rattle.kn_wire.specs.Feeds.{held, IsAnswer};
     ghost use Rattle.kn_wire.specs.contracts.feed.Feed.{the_row};
@@ -74,7 +74,7 @@ impl Feed {
     pub fn push(&mut self, piece: &[u8])
         requires short { length piece.now ≤ CHUNK_BYTES }
         requires none { next_of (held self.old) ≡ None }
-        ensures { held self.new ≡ pushed (held self.old) piece.now }
+        ensures { held self.new ≡ with_piece (held self.old) piece.now }
     {
         self.make_room();
         copy_behind(&mut self.buf, self.end, piece);
@@ -190,7 +190,7 @@ impl Feed {
     fn admit(&mut self, bytes: usize)
         requires room { self.old.end + bytes ≤ BUFFER_BYTES }
         requires none { next_of (held self.old) ≡ None }
-        ensures { held self.new ≡ pushed (held self.old) (take bytes (drop self.old.end self.old.buf.items)) }
+        ensures { held self.new ≡ with_piece (held self.old) (take bytes (drop self.old.end self.old.buf.items)) }
     {
         match self.cursor.stage {
             Stage::Reading => self.end += bytes,
@@ -203,7 +203,7 @@ impl Feed {
     fn admit_skipping(&mut self, bytes: usize)
         requires room { self.old.end + bytes ≤ BUFFER_BYTES }
         requires stage { self.old.cursor.stage ≡ S.Skipping }
-        ensures { held self.new ≡ pushed (held self.old) (take bytes (drop self.old.end self.old.buf.items)) }
+        ensures { held self.new ≡ with_piece (held self.old) (take bytes (drop self.old.end self.old.buf.items)) }
     {
         let piece = self.buf.as_slice().split_at(self.end).1.split_at(bytes).0;
         let line = place_of(b'\n', piece, 0);

@@ -2,7 +2,7 @@
 ghost use Rattle.std.specs.Prelude.{◌≡◌, option_map};
 ghost use Rattle.kn_wire.specs.Lines.{blocked_of, line_of_head, with_block};
 ghost use Rattle.kn_wire.specs.Requests as D;
-ghost use Rattle.kn_wire.specs.Requests.{line_of, sized, with_number};
+ghost use Rattle.kn_wire.specs.Requests.{line_of, size_line, with_number};
 
 use crate::request::Request;
 use crate::split::split_number;
@@ -51,7 +51,7 @@ pub(crate) fn read_head(line: &[u8]) -> Option<(Head, usize)>
 }
 
 fn read_assert(text: &[u8]) -> Option<(Head, usize)>
-    ensures { option_map line_of_head result ≡ with_number (λ s. sized (D.Assert s)) text.now }
+    ensures { option_map line_of_head result ≡ with_number (λ s. size_line (D.Assert s)) text.now }
 {
     let (s, rest) = split_number(text)?;
     read_size(Head::Assert { s }, rest)
@@ -59,7 +59,7 @@ fn read_assert(text: &[u8]) -> Option<(Head, usize)>
 
 /// The head, and how many bytes its block has.
 fn read_size(head: Head, text: &[u8]) -> Option<(Head, usize)>
-    ensures { option_map line_of_head result ≡ sized (with_block head) text.now }
+    ensures { option_map line_of_head result ≡ size_line (with_block head) text.now }
 {
     let n = decimal(text)?;
     Some((head, n as usize))

@@ -4,8 +4,8 @@ ghost use Rattle.std.specs.List.{list_all};
 ghost use Rattle.kn_wire.specs.Lines.{blocked_of, line_of_request, word_text};
 ghost use Rattle.kn_wire.specs.Requests as D;
 ghost use Rattle.kn_wire.specs.Requests.{is_space, is_word, line_of, line_of_command, name_and_rest, or_malformed};
-ghost use Rattle.kn_wire.specs.Requests.{admin_line, lettered, named, named_hex, numbered, numbered_text, pin_line};
-ghost use Rattle.kn_wire.specs.Requests.{when, with_number};
+ghost use Rattle.kn_wire.specs.Requests.{admin_line, letter_line, name_line, name_hex_line, number_line};
+ghost use Rattle.kn_wire.specs.Requests.{number_text_line, pin_line, when, with_number};
 ghost use Rattle.kn_wire.specs.Wired.{request_or_fault};
 
 use crate::fault::WireFault;
@@ -69,7 +69,7 @@ fn read_behind(word: Word, text: &[u8]) -> Option<Request<'_>>
 }
 
 fn read_close(text: &[u8]) -> Option<Request<'_>>
-    ensures { option_map line_of_request result ≡ numbered D.Close text.now }
+    ensures { option_map line_of_request result ≡ number_line D.Close text.now }
 {
     let s = decimal(text)?;
     Some(Request::Close { s })
@@ -85,7 +85,7 @@ fn read_pin(text: &[u8]) -> Option<Request<'_>>
 }
 
 fn read_pin_at(text: &[u8]) -> Option<Request<'_>>
-    ensures { option_map line_of_request result ≡ with_number (λ s. numbered (D.PinAt s)) text.now }
+    ensures { option_map line_of_request result ≡ with_number (λ s. number_line (D.PinAt s)) text.now }
 {
     let (s, rest) = split_number(text)?;
     let version = decimal(rest)?;
@@ -93,21 +93,21 @@ fn read_pin_at(text: &[u8]) -> Option<Request<'_>>
 }
 
 fn read_log(text: &[u8]) -> Option<Request<'_>>
-    ensures { option_map line_of_request result ≡ numbered D.Log text.now }
+    ensures { option_map line_of_request result ≡ number_line D.Log text.now }
 {
     let n = decimal(text)?;
     Some(Request::Log { n })
 }
 
 fn read_clear(text: &[u8]) -> Option<Request<'_>>
-    ensures { option_map line_of_request result ≡ numbered D.Clear text.now }
+    ensures { option_map line_of_request result ≡ number_line D.Clear text.now }
 {
     let s = decimal(text)?;
     Some(Request::Clear { s })
 }
 
 fn read_drop(text: &[u8]) -> Option<Request<'_>>
-    ensures { option_map line_of_request result ≡ lettered 97 D.Drop text.now }
+    ensures { option_map line_of_request result ≡ letter_line 97 D.Drop text.now }
 {
     let k = number_behind(b'a', text)?;
     Some(Request::Drop { k })
@@ -123,7 +123,7 @@ fn read_admin(text: &[u8]) -> Option<Request<'_>>
 }
 
 fn read_retract(text: &[u8]) -> Option<Request<'_>>
-    ensures { option_map line_of_request result ≡ with_number (λ s. lettered 112 (D.Retract s)) text.now }
+    ensures { option_map line_of_request result ≡ with_number (λ s. letter_line 112 (D.Retract s)) text.now }
 {
     let (s, rest) = split_number(text)?;
     let k = number_behind(b'p', rest)?;
@@ -131,7 +131,7 @@ fn read_retract(text: &[u8]) -> Option<Request<'_>>
 }
 
 fn read_set(text: &[u8]) -> Option<Request<'_>>
-    ensures { option_map line_of_request result ≡ with_number (λ s. named (D.Set s)) text.now }
+    ensures { option_map line_of_request result ≡ with_number (λ s. name_line (D.Set s)) text.now }
 {
     let (s, rest) = split_number(text)?;
     let (name, value) = split_name(rest)?;
@@ -139,7 +139,7 @@ fn read_set(text: &[u8]) -> Option<Request<'_>>
 }
 
 fn read_set_hex(text: &[u8]) -> Option<Request<'_>>
-    ensures { option_map line_of_request result ≡ with_number (λ s. named_hex (D.SetHex s)) text.now }
+    ensures { option_map line_of_request result ≡ with_number (λ s. name_hex_line (D.SetHex s)) text.now }
 {
     let (s, rest) = split_number(text)?;
     let (name, digits) = split_name(rest)?;
@@ -161,49 +161,49 @@ fn read_unset(text: &[u8]) -> Option<Request<'_>>
 }
 
 fn read_auth(text: &[u8]) -> Option<Request<'_>>
-    ensures { option_map line_of_request result ≡ numbered_text D.Auth text.now }
+    ensures { option_map line_of_request result ≡ number_text_line D.Auth text.now }
 {
     let (s, principal) = split_number(text)?;
     Some(Request::Auth { s, principal })
 }
 
 fn read_unauth(text: &[u8]) -> Option<Request<'_>>
-    ensures { option_map line_of_request result ≡ numbered_text D.Unauth text.now }
+    ensures { option_map line_of_request result ≡ number_text_line D.Unauth text.now }
 {
     let (s, principal) = split_number(text)?;
     Some(Request::Unauth { s, principal })
 }
 
 fn read_query(text: &[u8]) -> Option<Request<'_>>
-    ensures { option_map line_of_request result ≡ numbered_text D.Query text.now }
+    ensures { option_map line_of_request result ≡ number_text_line D.Query text.now }
 {
     let (s, values) = split_number(text)?;
     Some(Request::Query { s, values })
 }
 
 fn read_watch(text: &[u8]) -> Option<Request<'_>>
-    ensures { option_map line_of_request result ≡ numbered_text D.Watch text.now }
+    ensures { option_map line_of_request result ≡ number_text_line D.Watch text.now }
 {
     let (s, values) = split_number(text)?;
     Some(Request::Watch { s, values })
 }
 
 fn read_news(text: &[u8]) -> Option<Request<'_>>
-    ensures { option_map line_of_request result ≡ numbered D.News text.now }
+    ensures { option_map line_of_request result ≡ number_line D.News text.now }
 {
     let s = decimal(text)?;
     Some(Request::News { s })
 }
 
 fn read_unwatch(text: &[u8]) -> Option<Request<'_>>
-    ensures { option_map line_of_request result ≡ numbered D.Unwatch text.now }
+    ensures { option_map line_of_request result ≡ number_line D.Unwatch text.now }
 {
     let s = decimal(text)?;
     Some(Request::Unwatch { s })
 }
 
 fn read_critical(text: &[u8]) -> Option<Request<'_>>
-    ensures { option_map line_of_request result ≡ numbered_text D.Critical text.now }
+    ensures { option_map line_of_request result ≡ number_text_line D.Critical text.now }
 {
     let (s, values) = split_number(text)?;
     Some(Request::Critical { s, values })

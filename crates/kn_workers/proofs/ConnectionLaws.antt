@@ -5,7 +5,7 @@ use Rattle.std.specs.Prelude.{◌⊎◌, IfSome}
 use Rattle.std.proofs.Math.Seq.{drop-append_seam}
 use Rattle.kn_outside.specs.Seen.{LinkSeen}
 use Rattle.kn_outside.specs.SpecifiedBytes.{more, before}
-use Rattle.kn_outside.specs.Faults.{Rose, raised}
+use Rattle.kn_outside.specs.Faults.{Rose, count_up}
 use Rattle.kn_history.specs.declared.update.Update.{Update}
 use Rattle.kn_history.specs.History.{is_valid_history}
 use Rattle.kn_daemon.specs.declared.ended.Ended.{Ended}
@@ -51,9 +51,9 @@ no-fault (E.Cut held) l l' none cause calm = cause ∙ none
 no-fault (E.Block n) l l' none cause calm = cause ∙ none
 no-fault E.Budget l l' none cause calm = cause ∙ none
 
-faultless : (old new : ℕ) → old ≡ 0 → new ≡ 0 → new < raised old
+faultless : (old new : ℕ) → old ≡ 0 → new ≡ 0 → new < count_up old
 faultless old new none none' =
-    subst (λ (n : ℕ). new < raised n) (sym none) (subst (λ (n : ℕ). n < raised 0) (sym none') (omega arith))
+    subst (λ (n : ℕ). new < count_up n) (sym none) (subst (λ (n : ℕ). n < count_up 0) (sym none') (omega arith))
 
 -- what the calls show of where the turn was had
 pub stops_between : (v w : PassSeen) (more own : List Update) (stops : List ℕ) → Moves v w more own stops →

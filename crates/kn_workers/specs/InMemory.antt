@@ -1,7 +1,7 @@
 -- Doors and nets in memory (keynoted's own).
 use Rattle.std.specs.Prelude.{ℕ, ◌≡◌, ◌+◌, ◌≤◌, ◌⊎◌, true, false, List, [], ◌∷◌, length, All, Some}
 use Rattle.kn_base.specs.ListWithRoom.{ListWithRoom}
-use Rattle.kn_outside.specs.Faults.{raised}
+use Rattle.kn_outside.specs.Faults.{count_up}
 use Rattle.kn_outside.specs.InMemory.{LinkInMemory, is_failing}
 use Rattle.kn_outside.specs.Seen.{LinkSeen}
 use Rattle.kn_workers.specs.Connections.{ServedSeen}
@@ -58,9 +58,9 @@ pub record IsKept (links : List LinkInMemory) (quota given : ℕ)
 -- exactly where there is none, or where it is among those that fail.
 abbrev pub GivesNext : Accepted LinkInMemory → DoorInMemory → DoorInMemory → Type 0
 GivesNext (Conn link) d d' =
-    (is_failing d.failing (raised d.calls) ≡ false) × (d.links ≡ link ∷ d'.links)
-    × (d' ≡ record d { links = d'.links; calls = raised d.calls; given = d.given + 1 })
-GivesNext Closed d d' = d' ≡ record d { calls = raised d.calls }
+    (is_failing d.failing (count_up d.calls) ≡ false) × (d.links ≡ link ∷ d'.links)
+    × (d' ≡ record d { links = d'.links; calls = count_up d.calls; given = d.given + 1 })
+GivesNext Closed d d' = d' ≡ record d { calls = count_up d.calls }
 GivesNext Failed d d' =
-    ((d.links ≡ []) ⊎ (is_failing d.failing (raised d.calls) ≡ true))
-    × (d' ≡ record d { calls = raised d.calls; faults = raised d.faults })
+    ((d.links ≡ []) ⊎ (is_failing d.failing (count_up d.calls) ≡ true))
+    × (d' ≡ record d { calls = count_up d.calls; faults = count_up d.faults })

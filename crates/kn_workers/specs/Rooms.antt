@@ -1,7 +1,7 @@
 -- A net in memory and its rooms: what the doors get of them, and the room for their results (keynoted's own).
 use Rattle.std.specs.Prelude.{ℕ, zero, suc, ◌≡◌, ◌+◌, ◌≤◌, true, false, List, [], ◌∷◌, length, Option, Result, Ok, Err}
 use Rattle.kn_base.specs.ListWithRoom.{ListWithRoom}
-use Rattle.kn_outside.specs.Faults.{raised}
+use Rattle.kn_outside.specs.Faults.{count_up}
 use Rattle.kn_outside.specs.InMemory.{LinkInMemory, is_failing}
 use Rattle.kn_workers.specs.Connections.{ServedSeen}
 use Rattle.kn_workers.specs.InMemory.{DoorInMemory}
@@ -53,9 +53,9 @@ HaveRooms rooms i (d ∷ doors) =
 -- binding in memory fails exactly where the call is among those that fail, and else the doors have the rooms
 abbrev pub BindsRooms : Result (List DoorInMemory) BindFault → NetInMemory → NetInMemory → Type 0
 BindsRooms (Ok doors) n n' =
-    (is_failing n.failing (raised n.calls) ≡ false) × HaveRooms n.waiting 0 doors
-    × (n' ≡ record n { waiting = []; calls = raised n.calls; bound = n'.bound })
+    (is_failing n.failing (count_up n.calls) ≡ false) × HaveRooms n.waiting 0 doors
+    × (n' ≡ record n { waiting = []; calls = count_up n.calls; bound = n'.bound })
 BindsRooms (Err Failed) n n' =
-    (is_failing n.failing (raised n.calls) ≡ true)
-    × (n' ≡ record n { calls = raised n.calls; bound = n'.bound; faults = raised n.faults })
+    (is_failing n.failing (count_up n.calls) ≡ true)
+    × (n' ≡ record n { calls = count_up n.calls; bound = n'.bound; faults = count_up n.faults })
 BindsRooms (Err NoMemory) n n' = n' ≡ n

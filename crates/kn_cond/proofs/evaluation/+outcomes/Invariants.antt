@@ -5,7 +5,7 @@ use Rattle.kn_trees.specs.Depths.{expr_depth}
 use Rattle.kn_trees.proofs.ExprDepthLaws.{link_depths}
 use Rattle.kn_cond.specs.Joining.{joins, link_joins}
 use Rattle.kn_cond.specs.Meaning.{value_by, chain_of, links_of, meaning_of}
-use Rattle.kn_cond.specs.Results.{meant}
+use Rattle.kn_cond.specs.Results.{meaning_of_outcome}
 use Rattle.kn_cond.proofs.evaluation.+outcomes.Given as goal
 
 -- twice the levels, so that the parts of an expression stand between it and each of them
@@ -28,7 +28,7 @@ invariant-value_of_parts-loop-k l = record {
 
 abbrev pub invariant-chain_of-loop-k : goal.invariant-chain_of-loop-k
 invariant-chain_of-loop-k l = record {
-  value : chain_of (meant l.left) (links_of l.env (drop l.k l.links))
-      ≡ chain_of (meant l.initial.left) (links_of l.env l.links);
+  value : chain_of (meaning_of_outcome l.left) (links_of l.env (drop l.k l.links))
+      ≡ chain_of (meaning_of_outcome l.initial.left) (links_of l.env l.links);
   memory : list_any link_joins (drop l.k l.links) ≡ true → list_any link_joins l.links ≡ true;
 }

@@ -2,7 +2,7 @@ use Rattle.std.proofs.Common.{◌<◌, ℕ, List, sym, subst}
 use Rattle.kn_proof.specs.declared.row.Row.{Row as ProofRow}
 use Rattle.kn_system.specs.Equations.{SystemEquations}
 use Rattle.kn_system.specs.Lawful.{IsGranted}
-use Rattle.kn_system.specs.Settled.{IsSettled, unsettled}
+use Rattle.kn_system.specs.Settled.{IsSettled, count_unsettled}
 use Rattle.kn_settle.proofs.RowGrants.{settled_read, fewer_read}
 use Rattle.kn_settle.proofs.reaching.grant.Goals as goal
 
@@ -26,6 +26,6 @@ returns-in-Ok-reach-clause-fewer g c =
     let granted : IsGranted s c.args.value levels rows c.args.row =
     c.settling_grants.ensures s c.args.value levels rows c.args.row c.requires.well_formed c.requires.above_lowest
     c.requires.settled c.requires.granted in
-    subst (λ (ls : List ℕ). unsettled ls < unsettled levels) (sym c.in-Ok-reach.ensures.levels)
+    subst (λ (ls : List ℕ). count_unsettled ls < count_unsettled levels) (sym c.in-Ok-reach.ensures.levels)
     (fewer_read s c.args.value c.authorizer-principal.result c.args.row levels rows
     c.authorizer-principal.ensures.exact granted)

@@ -1,6 +1,6 @@
 use Rattle.std.proofs.Common.{◌≡◌, ◌≤◌, length}
 use Rattle.kn_system.specs.Equations.{node_total}
-use Rattle.kn_system.specs.Settled.{IsSettled, unsettled}
+use Rattle.kn_system.specs.Settled.{IsSettled, count_unsettled}
 use Rattle.kn_settle.specs.Counters.{bucket_at}
 use Rattle.kn_settle.proofs.BucketSettling.{ArePassed, Continues}
 use Rattle.kn_settle.specs.Blank.{AreTrailed}
@@ -26,4 +26,4 @@ invariant-loop-row g l = record {
 }
 
 abbrev pub decreases-loop-row : goal.decreases-loop-row
-decreases-loop-row g l = unsettled l.levels.values.items
+decreases-loop-row g l = count_unsettled l.levels.values.items

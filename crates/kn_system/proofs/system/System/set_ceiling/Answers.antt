@@ -1,7 +1,7 @@
 use Rattle.std.proofs.Common.{◌≡◌, ◌<◌, ◌∷◌, false, List, length, get_or, slice_set, ap, ◌∙◌, arith}
 use Rattle.std.proofs.lemmas.List.{length-map}
 use Rattle.kn_system.specs.declared.rows.StoredRow.{StoredRow}
-use Rattle.kn_system.specs.Equations.{SystemEquations, recapped}
+use Rattle.kn_system.specs.Equations.{SystemEquations, with_row_ceiling}
 use Rattle.kn_system.specs.KeptRows.{kept_rows}
 use Rattle.kn_system.specs.Rows.{SystemRow}
 use Rattle.kn_system.proofs.OtherCeilings.{IsRecapped, is_recapped, stored_with}
@@ -40,4 +40,4 @@ returns-clause-ok g c =
     slice_set s.rows c.args.row (stored_with (get_or rs c.args.row none) c.args.ceiling)) c.as_slice.ensures)
     c.self.invariant.0 c.self.invariant.1 in
     ap (λ (rs : List SystemRow). record { levels = s.levels; requesters = false ∷ s.others; rows = rs }) is.same
-    ∙ ap (λ (e : SystemEquations). record e { rows = recapped e.rows c.args.row c.args.ceiling }) c.self.view_is
+    ∙ ap (λ (e : SystemEquations). record e { rows = with_row_ceiling e.rows c.args.row c.args.ceiling }) c.self.view_is

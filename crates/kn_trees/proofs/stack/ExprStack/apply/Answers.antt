@@ -1,7 +1,7 @@
 use Rattle.std.proofs.Common.{◌≡◌, ◌-◌, [], ◌∷◌, ◌++◌, length, sym, ap, ◌∙◌, arith}
 use Rattle.kn_trees.specs.ExprKinds.{kind_of}
 use Rattle.kn_trees.specs.Forests.{no_pools, tree_of}
-use Rattle.kn_trees.specs.Signs.{prefixed}
+use Rattle.kn_trees.specs.Signs.{with_prefix}
 use Rattle.kn_trees.proofs.Roots.{root-found, tree-found, roots-put, trees-put}
 use Rattle.kn_trees.proofs.stack.ExprStack.apply.Goals as goal
 
@@ -27,4 +27,4 @@ returns-clause-ok c = λ front part same.
     c.in_ok-place.ensures.place c.self.invariant
     c.replace_from.ensures front (part ∷ []) (c.self.view_is ∙ same) at in
     rw c.in_ok-place.ensures.ok (put
-    ∙ ap (λ t. front ++ t ∷ []) (c.node.ensures.tree s.forest ∙ ap (prefixed c.args.sign) found))
+    ∙ ap (λ t. front ++ t ∷ []) (c.node.ensures.tree s.forest ∙ ap (with_prefix c.args.sign) found))

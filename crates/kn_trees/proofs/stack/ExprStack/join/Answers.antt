@@ -3,7 +3,7 @@ use Rattle.std.specs.List.{All}
 use Rattle.std.proofs.lemmas.List.Elements.{All-drop}
 use Rattle.kn_trees.specs.ExprKinds.{kind_of}
 use Rattle.kn_trees.specs.Roots.{IsRoot, trees_at}
-use Rattle.kn_trees.specs.Signs.{joined}
+use Rattle.kn_trees.specs.Signs.{join_expressions}
 use Rattle.kn_trees.proofs.ExprKindLaws.{kind_of-joined}
 use Rattle.kn_trees.proofs.Roots.{kinds-trees_at, trees-parts, roots-put, trees-put}
 use Rattle.kn_trees.proofs.stack.ExprStack.join.Goals as goal
@@ -15,7 +15,7 @@ invariant_of-self-2 c =
     let here : All (IsRoot s.forest) parts =
     rw c.roots_from-parts.ensures
     (All-drop (IsRoot s.forest) (c.len.result - c.args.count) s.roots.items c.self.invariant) in
-    let kind : c.gives-kind.result ≡ kind_of (joined c.args.joint (trees_at s.forest parts)) =
+    let kind : c.gives-kind.result ≡ kind_of (join_expressions c.args.joint (trees_at s.forest parts)) =
     rw (
       c.gives-kind.ensures,
       c.are_truths.ensures,
@@ -37,5 +37,5 @@ returns-clause-ok c = λ front parts same count.
     trees-put s.forest _ s.roots.items _ from _ c.in_ok-place.ensures.place c.self.invariant c.replace_from.ensures
     front parts here at in
     rw c.in_ok-place.ensures.ok
-    (put ∙ ap (λ ts. front ++ joined c.args.joint ts ∷ []) (ap (trees_at s.forest) c.roots_from-parts.ensures
+    (put ∙ ap (λ ts. front ++ join_expressions c.args.joint ts ∷ []) (ap (trees_at s.forest) c.roots_from-parts.ensures
     ∙ split.1))

@@ -1,6 +1,6 @@
 use Rattle.std.proofs.Common.{◌≡◌, ◌∙◌, ◌+◌, ap, sym, take, drop, arith}
 use Rattle.kn_wire.specs.Cursors.{held_by}
-use Rattle.kn_wire.specs.Feeding.{Bytes, InLong, pushed}
+use Rattle.kn_wire.specs.Feeding.{Bytes, InLong, with_piece}
 use Rattle.kn_wire.specs.Feeds.{held}
 use Rattle.kn_wire.proofs.Feeds.{drop_more, skips_all, skips_line}
 use Rattle.kn_wire.proofs.feed.Feed.admit_skipping.Goals as goal
@@ -16,8 +16,8 @@ returns-then-line-bytes c =
     ap (λ stage. held_by stage text) c.requires.stage
     ∙ skips_all piece c.place_of-line.result c.place_of-line.ensures.place (c.if-line-bytes.true
     ∙ sym c.split_at-2.ensures.front_len)
-    ∙ ap (pushed InLong) is
-    ∙ ap (λ stage. pushed (held_by stage text) (take c.args.bytes (drop self.end self.buf.items)))
+    ∙ ap (with_piece InLong) is
+    ∙ ap (λ stage. with_piece (held_by stage text) (take c.args.bytes (drop self.end self.buf.items)))
     (sym c.requires.stage)
 
 pub returns : goal.returns
@@ -36,6 +36,6 @@ returns c =
     ∙ ap Bytes (drop_more self.buf.items self.end (line + 1) c.args.bytes)
     ∙ ap (λ p. Bytes (drop (line + 1) p)) (sym is)
     ∙ skips_line piece line c.place_of-line.ensures.place (omega arith)
-    ∙ ap (pushed InLong) is
-    ∙ ap (λ stage. pushed (held_by stage text) (take c.args.bytes (drop self.end self.buf.items)))
+    ∙ ap (with_piece InLong) is
+    ∙ ap (λ stage. with_piece (held_by stage text) (take c.args.bytes (drop self.end self.buf.items)))
     (sym c.requires.stage)

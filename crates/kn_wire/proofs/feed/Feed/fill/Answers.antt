@@ -1,6 +1,6 @@
 use Rattle.std.proofs.Common.{◌≡◌, ◌∙◌, ap, take, drop, length-drop, length-take, List, ℕ, arith}
 use Rattle.kn_wire.specs.Cursors.{held_at}
-use Rattle.kn_wire.specs.Feeding.{Held, pushed, next_of}
+use Rattle.kn_wire.specs.Feeding.{Held, with_piece, next_of}
 use Rattle.kn_wire.specs.Feeds.{held}
 use Rattle.kn_wire.proofs.feed.Feed.fill.Goals as goal
 
@@ -31,7 +31,7 @@ returns-in-Ok g c =
         c.make_room.ensures.room,
         c.make_room.new.self.full,
       );
-      added = c.admit.ensures ∙ ap (λ h. pushed h piece) kept;
+      added = c.admit.ensures ∙ ap (λ h. with_piece h piece) kept;
       read = c.in-Ok.ensures.read;
       over = c.in-Ok.ensures.over;
     }

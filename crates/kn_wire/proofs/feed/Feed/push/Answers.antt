@@ -1,6 +1,6 @@
 use Rattle.std.proofs.Common.{◌≡◌, ◌∙◌, ap, take}
 use Rattle.kn_wire.specs.Cursors.{held_at}
-use Rattle.kn_wire.specs.Feeding.{Held, pushed, next_of}
+use Rattle.kn_wire.specs.Feeding.{Held, with_piece, next_of}
 use Rattle.kn_wire.specs.Feeds.{held}
 use Rattle.kn_wire.proofs.feed.Feed.push.Goals as goal
 
@@ -17,4 +17,4 @@ returns c =
     held_at c.make_room.new.self.cursor (take c.make_room.new.self.end c.copy_behind.new.buffer.items) in
     let kept : mid ≡ held c.args.self.now = ap (held_at c.make_room.new.self.cursor) c.copy_behind.ensures.front
     ∙ c.make_room.ensures.held in
-    c.admit.ensures ∙ ap (pushed mid) c.copy_behind.ensures.behind ∙ ap (λ h. pushed h c.args.piece.now) kept
+    c.admit.ensures ∙ ap (with_piece mid) c.copy_behind.ensures.behind ∙ ap (λ h. with_piece h c.args.piece.now) kept
