@@ -19,7 +19,7 @@ batch-tells_ids g caller past old block first added version new p =
         before = b.committed.before;
         update = batch_by caller b.first items;
         ends = b.committed.ends;
-        first_is = first_is ∙ b.next;
+        first_is = first_is ∙ b.first_is;
         added_is = cc same;
       },
       cc same,

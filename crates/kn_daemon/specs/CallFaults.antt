@@ -15,7 +15,7 @@ abbrev pub refusal_of_call_fault : CallFault → Option Refusal
 refusal_of_call_fault (T.Text fault) = refusal_at_text R.Read fault
 refusal_of_call_fault (T.Session fault) = refusal_of_session fault
 
--- a new private assertion is named by its id
+-- the reply that the result of a call is: a new private assertion is named by its id
 abbrev pub reply_of_applied : Applied → Reply
 reply_of_applied A.Done = Done
 reply_of_applied (A.Added k) = PrivateAdded k

@@ -102,7 +102,7 @@ refusal_of_session S.NoMemory = None
 abbrev pub refusal_by : Option SessionFault → Option Refusal
 refusal_by fault = option_and_then refusal_of_session fault
 
--- what refuses a request to the session that is found: it isn't open, or for a refusal of its own
+-- what refuses a request to a session: that it isn't open, or else a refusal of its own
 abbrev pub in_session : Option Session → (Session → Option Refusal) → Option Refusal
 in_session None refusal = Some R.Session
 in_session (Some session) refusal = refusal session
@@ -137,32 +137,38 @@ refusal_from g number [] = None
 refusal_from g number (item ∷ items) =
     option_or (option_map (R.Item number) (item_refusal g item)) (refusal_from g (number + 1) items)
 
+-- the items of a block, where it has their form
+abbrev pub read_items : Result (List BatchItem) ℕ → Option (List Item)
+read_items (Ok items) = Some (map item_of items)
+read_items (Err number) = None
+
 -- a block that departs from the form of items is refused for that, and else for the first item that isn't admitted,
 -- counted from 1
 abbrev pub refusal_of_block : DaemonConfig → Result (List BatchItem) ℕ → Option Refusal
 refusal_of_block g (Ok items) = refusal_from g 1 items
 refusal_of_block g (Err number) = Some (R.Batch number)
 
--- what refuses a call of an open session; an assertion is judged once its text is read
+-- What refuses a call of an open session; none when out of memory. An assertion is judged once its text is read.
 abbrev pub refusal_of_call : Call → Session → Option Refusal
 refusal_of_call (Assert text) session =
-    refusal_at_reading R.Read (reading_of text) (λ assertion. refusal_by (private_fault text assertion session))
+    refusal_at_reading R.Read (reading_of text) (λ a. refusal_by (private_fault text a session))
 refusal_of_call call session = refusal_by (session_fault call session)
 
 -- More nodes than the critical assertions of a query are looked for in are refused: the number of nodes is named.
 abbrev pub refusal_of_nodes : ℕ → Option Refusal
 refusal_of_nodes nodes = refuse_if (nat_lt CRITICAL_NODES nodes) (R.Limit W.Nodes nodes) None
 
+-- only the search for critical assertions has a limit
 abbrev pub refusal_of_question : Question → Session → List (List ℕ) → Option Refusal
 refusal_of_question WithCritical session values = refusal_of_nodes (equation_nodes (equations_of session values))
 refusal_of_question question session values = None
 
--- names that are no compliance values are refused before all else
+-- names that are no compliance values are refused before the question itself is
 abbrev pub refusal_of_names : Option (List (List ℕ)) → (List (List ℕ) → Option Refusal) → Option Refusal
 refusal_of_names None next = Some R.Values
 refusal_of_names (Some values) next = next values
 
--- updates are made, and shown, for an administrator alone
+-- What the state refuses of a request. Updates are made by administrators alone, and shown to them alone.
 abbrev pub own_refusal : DaemonConfig → State → Shape → Option Refusal
 own_refusal g state (Calls s call) = in_session (session_of state s) (refusal_of_call call)
 own_refusal g state (Updates (AddText text)) = refuse_if (not state.is_admin) R.Admin
@@ -200,17 +206,13 @@ refusal_of_store fault = refusal_at_store R.Unknown R.Limit fault
 abbrev pub refusal_of_item_fault : ℕ → StoreFault → Option Refusal
 refusal_of_item_fault number fault = option_map (R.Item number) (refusal_at_store I.Unknown I.Limit fault)
 
--- the items of a block, where it has their form
-abbrev pub read_items : Result (List BatchItem) ℕ → Option (List Item)
-read_items (Ok items) = Some (map item_of items)
-read_items (Err number) = None
-
--- the first item that the history refuses behind those in front of it
+-- the refusal of the first item that the history refuses behind those in front of it
 abbrev pub refusal_of_batch : List Update → List Item → Option Refusal
 refusal_of_batch past items =
     option_and_then (λ found. refusal_of_item_fault found.0 found.1) (refusal_of_items (all_changes past) items)
 
--- a version isn't retained, or there are fewer updates than that: the newest version is named
+-- What the history refuses of a request. Where a version isn't retained, or LOG's n is more than the number of updates,
+-- the newest version is named.
 abbrev pub placed_refusal : List Update → Shape → Option Refusal
 placed_refusal past (Updates (AddText text)) =
     option_and_then refusal_of_store (fault_of_addition (all_changes past) text)
@@ -293,16 +295,16 @@ pub record IsCommitted (past : List Update) (update : Update) : Type 0 where
 pub record IsBatchCommitted (caller : ℕ) (past : List Update) (items : List Item) (reply : Reply) : Type 0 where
   pub first : ℕ
   pub committed : IsCommitted past (batch_by caller first items)
-  pub next : first ≡ additions (all_changes committed.before) + 1
+  pub first_is : first ≡ additions (all_changes committed.before) + 1
   pub exact : reply ≡ Batched first (additions (numbered_from first items)) (length past)
 
--- a new private assertion is named by its id
+-- the reply to an accepted call: a new private assertion is named by its id
 abbrev pub reply_of_call : Call → Session → Reply
 reply_of_call (Assert text) session = PrivateAdded (session.made + 1)
 reply_of_call call session = Done
 
--- What an accepted request of this caller gives after this history. An update is the last one of the history. A version
--- that is asked for is retained, and LOG's n is no more than the number of updates.
+-- What an accepted request of this caller gives after this history. An accepted update is the last one of the history
+-- already. A version that is asked for is retained, and LOG's n is no more than the number of updates.
 abbrev pub Answers : ℕ → List Update → State → Shape → Reply → Type 0
 Answers caller past old (Calls s call) reply = IsSomeAnd (session_of old s) (λ x. reply ≡ reply_of_call call x)
 Answers caller past old (Updates (AddText text)) reply =

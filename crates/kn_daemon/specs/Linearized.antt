@@ -32,8 +32,8 @@ requests_in exchanges = map (λ e. e.request) exchanges
 abbrev pub texts_in : List Exchange → List (List ℕ)
 texts_in exchanges = map (λ e. reply_text e.reply) exchanges
 
--- The caller's update that a request of this shape asks for and its reply names: the reply says that it was accepted,
--- and tells the id of an addition, or of a batch's first one.
+-- The caller's update that a request of this shape asks for and its reply names, if it names one: the reply says that
+-- it was accepted, and tells the id of an addition, or of a batch's first one.
 abbrev pub update_by : ℕ → Shape → Reply → Option Update
 update_by caller (Updates (AddText text)) (Added id version) = Some (addition_by caller text id)
 update_by caller (Updates (DropId id)) (Number version) = Some (removal_by caller id)
@@ -54,8 +54,8 @@ abbrev pub InOrder : ℕ → ℕ → List Exchange → ℕ → Type 0
 InOrder caller low [] high = low ≤ high
 InOrder caller low (e ∷ es) high = IsBehind (update_of caller e) low e.place × InOrder caller e.place es high
 
--- A request of this shape is refused by the history, so the refusal depends on the place. What isn't there and limits
--- are the history's refusals of an update, and else the state's.
+-- Whether this refusal of a request of this shape is the history's, so that it depends on the place, and not the
+-- state's. What isn't there and limits are the history's of an update, or of an item of one, and else the state's.
 abbrev pub is_by_history : Shape → Refusal → Bool
 is_by_history (Updates update) R.Unknown = true
 is_by_history (Updates update) (R.Limit word count) = true

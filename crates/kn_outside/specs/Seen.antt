@@ -10,8 +10,7 @@ pub record LinkSeen : Type 0 where
   pub faults : ℕ
 
 -- what is seen of files: the content of each name that is there, where it is specified, the names that were asked for,
--- and
--- how many reads failed
+-- and how many reads failed
 pub record FilesSeen : Type 0 where
   pub content : Option (List ℕ → Option (List ℕ))
   pub asked : List (List ℕ)

@@ -115,7 +115,7 @@ module _ (g : DaemonConfig) (whole : Bool) (v w : PassSeen) (l l' : LinkSeen) (n
           record {
             first = batched.first;
             committed = record { before = c.before; ends = c.ends; accepted = c.follows };
-            next = b.first;
+            first_is = b.first;
             exact = rw (c.at, b.added) refl;
           }
 

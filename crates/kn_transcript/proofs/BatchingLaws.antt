@@ -184,7 +184,7 @@ module _ (past : List Update) (old : State) (block left : List ℕ) (admin : old
                     batch = record {
                       first = next_id past;
                       committed = record { before = past; ends = here; accepted = accepted };
-                      next = refl;
+                      first_is = refl;
                       exact = told;
                     };
                   }))

@@ -122,7 +122,7 @@ module _ (past : List Update) where
         with_update past (option_map (λ (all : List Item). batch_by 0 b.first all) (read_items r))) reads in
         let front : past ≡ b.committed.before =
         (same_from_push past b.committed.before u u (sym here ∙ b.committed.ends)).0 in
-        let number : b.first ≡ next_id past = b.next ∙ ap (λ (h : List Update). next_id h) (sym front) in
+        let number : b.first ≡ next_id past = b.first_is ∙ ap (λ (h : List Update). next_id h) (sym front) in
         let size : length made ≡ length past + 1 = ap (λ (h : List Update). length h) here ∙ longer u in
         let follows : update_may_follow (all_changes past) (batch_by 0 (next_id past) asked) ≡ true =
         subst (λ (n : ℕ). update_may_follow (all_changes past) (batch_by 0 n asked) ≡ true) number

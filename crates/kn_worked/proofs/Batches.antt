@@ -108,7 +108,7 @@ batch_is_made g caller secret verdict = record {
           answered = record {
             first = 2;
             committed = record { before = policy_history; ends = refl; accepted = rw credential_valid refl };
-            next = refl;
+            first_is = refl;
             exact = refl;
           };
           next = refl;

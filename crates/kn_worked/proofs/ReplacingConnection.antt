@@ -146,7 +146,7 @@ module _ (g : DaemonConfig) where
     answered = record {
       first = 2;
       committed = record { before = policy_history; ends = refl; accepted = rw credential_valid refl };
-      next = refl;
+      first_is = refl;
       exact = refl;
     };
     next = refl;
@@ -183,7 +183,7 @@ module _ (g : DaemonConfig) where
     answered = record {
       first = 3;
       committed = record { before = first_history; ends = refl; accepted = rw policy_valid refl };
-      next = refl;
+      first_is = refl;
       exact = refl;
     };
     next = refl;
