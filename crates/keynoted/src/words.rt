@@ -26,10 +26,7 @@ fn behind_first(alloc: Global, texts: Args) -> Result<List<Octets>, NoMemory>
     let mut words = List::new(alloc);
     for text in texts {
         let word = Octets::from_slice(alloc, text.as_bytes())?;
-        match words.push(word) {
-            Ok(()) => {}
-            Err(_) => return Err(NoMemory),
-        }
+        words.add(word)?;
     }
     Ok(words)
 }

@@ -380,10 +380,7 @@ impl Base {
         let mut rows = List::new(alloc);
         for row in proof.rows.as_slice() {
             let named = self.name_row(alloc, ids, row)?;
-            match rows.push(named) {
-                Ok(()) => {}
-                Err(_) => return Err(NoMemory),
-            }
+            rows.add(named)?;
         }
         Ok(rows)
     }

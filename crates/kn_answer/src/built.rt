@@ -59,10 +59,7 @@ fn ids_of(alloc: Global, list: &List<Part<'_>>) -> Result<List<Id>, NoMemory>
 {
     let mut ids = List::new(alloc);
     for part in list.as_slice() {
-        match ids.push(part.id) {
-            Ok(()) => {}
-            Err(_) => return Err(NoMemory),
-        }
+        ids.add(part.id)?;
     }
     Ok(ids)
 }
@@ -135,10 +132,7 @@ pub fn locate(alloc: Global, built: &Built, reply: &ReadReply) -> Result<Proof, 
 {
     let mut rows = List::new(alloc);
     for row in reply.rows.as_slice() {
-        match rows.push(built.numbered_row(row)) {
-            Ok(()) => {}
-            Err(_) => return Err(NoMemory),
-        }
+        rows.add(built.numbered_row(row))?;
     }
     Ok(Proof { rows })
 }

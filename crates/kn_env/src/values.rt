@@ -144,10 +144,7 @@ fn between_commas(alloc: Global, text: &[u8]) -> Result<List<Octets>, NoMemory>
 {
     let mut names = List::new(alloc);
     for name in text.split(|byte| *byte == b',') {
-        match names.push(Octets::from_slice(alloc, name)?) {
-            Ok(()) => {}
-            Err(_) => return Err(NoMemory),
-        }
+        names.add(Octets::from_slice(alloc, name)?)?;
     }
     Ok(names)
 }

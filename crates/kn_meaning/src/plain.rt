@@ -202,10 +202,7 @@ pub fn next_levels(
             statements,
         )?;
         let name = Octets::from_slice(alloc, entry.name.as_slice())?;
-        match next.push(Level { name, level }) {
-            Ok(()) => {}
-            Err(_) => return Err(NoMemory),
-        }
+        next.add(Level { name, level })?;
     }
     Ok(next)
 }

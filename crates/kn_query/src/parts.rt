@@ -50,10 +50,7 @@ pub(crate) fn push_shared<'a>(
             id: Id::Shared(version.id(place)),
             assertion: &version.credential(place).assertion,
         };
-        match parts.push(part) {
-            Ok(()) => {}
-            Err(_) => return Err(NoMemory),
-        }
+        parts.add(part)?;
     }
     Ok(())
 }
@@ -71,10 +68,7 @@ pub(crate) fn push_private<'a>(
             id: Id::Private(private.id),
             assertion: &private.assertion,
         };
-        match parts.push(part) {
-            Ok(()) => {}
-            Err(_) => return Err(NoMemory),
-        }
+        parts.add(part)?;
     }
     Ok(())
 }

@@ -89,10 +89,7 @@ impl Numbered {
         ensures err_names { OnErr result (self.new.names ≡ self.old.names) }
         ensures err_system { OnErr result (self.new.system ≡ self.old.system) }
     {
-        match self.names.push(name) {
-            Ok(()) => {}
-            Err(_) => return Err(NoMemory),
-        }
+        self.names.push(name)?;
         match self.system.push_principal(requester) {
             Ok(number) => Ok(number),
             Err(_) => {
@@ -246,10 +243,7 @@ impl Numbered {
         let mut numbers = List::new(alloc);
         for principal in principals.as_slice() {
             let number = self.number(principal.as_slice())?;
-            match numbers.push(number) {
-                Ok(()) => {}
-                Err(_) => return Err(NoMemory),
-            }
+            numbers.add(number)?;
         }
         Ok(numbers)
     }

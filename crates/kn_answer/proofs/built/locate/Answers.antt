@@ -10,6 +10,6 @@ loop-row-preserved c =
     let here : c.row-item.result ≡ get_or c.args.reply.now.rows c.loop-row.row-index c.row-item.result = c.row-item.is
     ∙ ap (λ xs. get_or xs c.loop-row.row-index c.row-item.result) items in
     subst (λ rows. AreLocated c.args.built.now (take (c.loop-row.row-index + 1) c.args.reply.now.rows) rows)
-    (sym c.in-Ok.ensures.ok)
+    (sym c.in_ok-add.ensures.ok)
     (located-more c.args.built.now c.args.reply.now.rows c.loop-row.rows c.loop-row.row-index c.row-item.result
     c.numbered_row.result within here c.loop-row.invariant c.numbered_row.ensures)

@@ -11,7 +11,7 @@ loop-entry-preserved c =
     let front = next_levels_of e c.args.table.now (take c.loop-entry.entry-index c.args.table.now) in
     let name = c.in_ok-name.ensures ∙ c.as_slice-in-loop-entry.ensures in
     let level = c.in_ok-level.ensures ∙ ap (round e (level_in c.args.table.now)) c.as_slice.ensures in
-    c.in-Ok.ensures.ok
+    c.in_ok-add.ensures.ok
     ∙ ap (λ so_far. so_far ++ entry_of c.in_ok-name.name c.in_ok-level.level ∷ []) c.loop-entry.invariant
     ∙ ap (λ n. front ++ entry_of n c.in_ok-level.level ∷ []) name
     ∙ ap (λ v. front ++ entry_of c.entry-item.result.name v ∷ []) level

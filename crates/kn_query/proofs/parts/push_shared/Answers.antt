@@ -29,7 +29,7 @@ loop-place-preserved c =
     c.credential.ensures.reading in
     let read = read_more_from live first place c.credential.result.now.text c.credential.result.now.assertion
     (omega arith) c.credential.ensures.text c.credential.ensures.reading c.loop-place.invariant.1 in (
-      c.in-Ok.ensures.ok
+      c.in_ok-add.ensures.ok
           ∙ ap (λ (l : List Part). l ++ part ∷ []) c.loop-place.invariant.0
           ∙ append_assoc c.args.parts.now (parts_of (λ (k : ℕ). Shared k) (drop first (take place live))) (part ∷ [])
           ∙ ap (λ (l : List Part). c.args.parts.now ++ l) (sym more)

@@ -21,6 +21,6 @@ loop-row-preserved g c = λ s.
     subst (λ xs. IsLocated built c.in_ok-named.named (get_or xs c.loop-row.row-index none)) items
     (c.in_ok-named.ensures s) in
     subst (λ rows. AreLocated built rows (take (c.loop-row.row-index + 1) c.args.proof.now.rows))
-    (sym c.in-Ok.ensures.ok)
+    (sym c.in_ok-add.ensures.ok)
     (named-more built c.loop-row.rows c.args.proof.now.rows c.loop-row.row-index c.in_ok-named.named none within
     (c.loop-row.invariant s) is)

@@ -29,8 +29,8 @@ number-requires-clause-few c =
     subst (λ names. length (with_name names c.as_slice.result.now) ≤ 2 ^ 24) (sym c.loop-principal.invariant.entered)
     (room_for_next c.args.self.now.names principals i c.as_slice.result.now (within c) (next_name c) c.requires.few)
 
-pub returns-in-Err-clause-base : goal.returns-in-Err-clause-base
-returns-in-Err-clause-base c =
+pub returns-in_err-add-clause-base : goal.returns-in_err-add-clause-base
+returns-in_err-add-clause-base c =
     λ parts is. extended-base 1 (c.as_slice.result.now ∷ []) c.loop-principal.self c.number.new.self
     c.in_ok-number.ensures.ok parts (c.loop-principal.invariant.base parts is)
 
@@ -52,7 +52,7 @@ loop-principal-preserved c =
     ap (λ n. take i principals ++ n ∷ []) (next_name here)
     ∙ sym (take_more principals i c.as_slice.result.now (within here)) in
     record {
-      numbers = subst (AreNumbersOf c.number.new.self.names (take (i + 1) principals)) (sym c.in-Ok.ensures.ok)
+      numbers = subst (AreNumbersOf c.number.new.self.names (take (i + 1) principals)) (sym c.in_ok-add.ensures.ok)
           (subst (λ ps. AreNumbersOf c.number.new.self.names ps (c.loop-principal.numbers ++ c.in_ok-number.number
           ∷ [])) more longer);
       base = λ parts is. extended-base 1 (c.as_slice.result.now ∷ []) c.loop-principal.self c.number.new.self ext parts
@@ -72,11 +72,11 @@ returns-in_err-number-clause-again c =
     ap (λ names. with_names names principals) (c.in_err-number.ensures.err_names ∙ c.loop-principal.invariant.entered)
     ∙ with_names-again c.args.self.now.names principals c.loop-principal.principal-index
 
-pub returns-in-Err-clause-again : goal.returns-in-Err-clause-again
-returns-in-Err-clause-again c =
+pub returns-in_err-add-clause-again : goal.returns-in_err-add-clause-again
+returns-in_err-add-clause-again c =
     let i : ℕ = c.loop-principal.principal-index in
     let principals : List (List ℕ) = c.args.principals.now in
-    let here = (goal.at.returns-in-Err-clause-again c).After-as_slice in
+    let here = (goal.at.returns-in_err-add-clause-again c).After-as_slice in
     ap (λ names. with_names names principals) (c.in_ok-number.ensures.entered
     ∙ ap (λ names. with_name names c.as_slice.result.now) c.loop-principal.invariant.entered
     ∙ with_names-more c.args.self.now.names principals i c.as_slice.result.now (within here) (next_name here))
