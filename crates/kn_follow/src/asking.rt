@@ -6,7 +6,7 @@ use crate::answer::find_answer;
 use crate::pull_fault::PullFault;
 use crate::reply::REPLY_BYTES;
 use crate::request::Request;
-use kn_base::{NoMemory, Octets};
+use kn_base::Octets;
 use kn_outside::{Failed, Link, write_all};
 use std::alloc::Global;
 
@@ -48,22 +48,16 @@ fn wait<L: Link>(
         (L.seen link.old) (L.seen link.new) fault) }
 {
     'pieces: loop {
-        match find_answer(alloc, request, held.as_slice()) {
-            Ok(Some(count)) => return Ok(count),
-            Ok(None) => {}
-            Err(NoMemory) => return Err(PullFault::NoMemory),
+        if let Some(count) = find_answer(alloc, request, held.as_slice())? {
+            return Ok(count);
         }
         if held.len() > REPLY_BYTES {
             return Err(PullFault::Long { bytes: TOO_MANY });
         }
-        match read_chunk(link, held) {
-            Ok(0) => {
-                return Err(PullFault::Ended {
-                    held: held.len() as u32,
-                });
-            }
-            Ok(_) => {}
-            Err(fault) => return Err(fault),
+        if read_chunk(link, held)? == 0 {
+            return Err(PullFault::Ended {
+                held: held.len() as u32,
+            });
         }
     }
 }
@@ -75,10 +69,10 @@ fn read_chunk<L: Link>(link: &mut L, held: &mut Octets) -> Result<usize, PullFau
 {
     let mut piece = [0; CHUNK_BYTES];
     match link.read(&mut piece) {
-        Ok(count) => match held.extend(piece.split_at(count).0) {
-            Ok(()) => Ok(count),
-            Err(NoMemory) => Err(PullFault::NoMemory),
-        },
+        Ok(count) => {
+            held.extend(piece.split_at(count).0)?;
+            Ok(count)
+        }
         Err(Failed) => Err(PullFault::Read),
     }
 }

@@ -10,7 +10,7 @@ use crate::fault::FollowFault;
 use crate::reading::read_reply;
 use crate::replica::{Replica, line_fault};
 use crate::reply::{REPLY_BYTES, ReadStop, Reply};
-use kn_base::{NoMemory, Octets};
+use kn_base::Octets;
 use std::alloc::Global;
 
 /// The replica that the replies of a file make, which is these one after the other.
@@ -25,16 +25,10 @@ pub fn follow(alloc: Global, log: Octets) -> Result<Replica, FollowFault>
     ensures followed { IfOk result (λ replica. IsLogFile log replica) }
     ensures refused { IfErr result (λ fault. IsLogFault log fault) }
 {
-    let mut replica = match Replica::start(alloc) {
-        Ok(replica) => replica,
-        Err(NoMemory) => return Err(FollowFault::NoMemory),
-    };
+    let mut replica = Replica::start(alloc)?;
     let mut left = log;
     'parts: while !left.is_empty() {
-        left = match take_part(alloc, &mut replica, left) {
-            Ok(behind) => behind,
-            Err(fault) => return Err(fault),
-        };
+        left = take_part(alloc, &mut replica, left)?;
     }
     Ok(replica)
 }
@@ -49,14 +43,9 @@ fn take_part(alloc: Global, replica: &mut Replica, held: Octets) -> Result<Octet
     ensures fault { IfErr result (λ fault. (text : List ℕ) → AppliesFirst text held replica.old
         → IsLogFault text fault) }
 {
-    let rest = match take_replies(alloc, replica, held.as_slice()) {
-        Ok(rest) => rest,
-        Err(fault) => return Err(fault),
-    };
-    match Octets::from_slice(alloc, rest) {
-        Ok(left) => Ok(left),
-        Err(NoMemory) => Err(FollowFault::NoMemory),
-    }
+    let rest = take_replies(alloc, replica, held.as_slice())?;
+    let left = Octets::from_slice(alloc, rest)?;
+    Ok(left)
 }
 
 /// Applies replies at the front of these bytes until at most three quarters of them are left, and gives these.
@@ -75,10 +64,7 @@ fn take_replies<'a>(
     let most = bytes.len() / 4 * 3;
     let mut rest = bytes;
     'replies: while rest.len() > most {
-        rest = match take_front(alloc, replica, rest) {
-            Ok(behind) => behind,
-            Err(fault) => return Err(fault),
-        };
+        rest = take_front(alloc, replica, rest)?;
     }
     Ok(rest)
 }
@@ -94,14 +80,9 @@ fn take_front<'a>(
     ensures applied { IfOk result (λ rest. AppliesFront replica.old bytes.now rest.now replica.new) }
     ensures fault { IfErr result (λ fault. IsFrontFault replica.old bytes.now fault) }
 {
-    let (reply, rest) = match read_front(alloc, bytes) {
-        Ok(read) => read,
-        Err(fault) => return Err(fault),
-    };
-    match replica.take_reply(&reply) {
-        Ok(_) => Ok(rest),
-        Err(fault) => Err(fault),
-    }
+    let (reply, rest) = read_front(alloc, bytes)?;
+    replica.take_reply(&reply)?;
+    Ok(rest)
 }
 
 /// The reply at the front of these bytes, and those behind it.

@@ -28,10 +28,7 @@ pub(crate) fn make_items(
 {
     let mut made = List::new(alloc);
     for item in items.as_slice() {
-        let asked = match make_item(alloc, item) {
-            Ok(asked) => asked,
-            Err(fault) => return Err(fault),
-        };
+        let asked = make_item(alloc, item)?;
         match made.push(asked) {
             Ok(()) => {}
             Err(_) => return Err(ItemFault::NoMemory),

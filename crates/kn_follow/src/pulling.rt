@@ -129,11 +129,10 @@ fn follow<L: Link>(
 {
     let mut number = replica.length();
     'rounds: loop {
-        match ask_log(alloc, link, held, number, replica) {
-            Ok(0) => return Ok(()),
-            Ok(_) => number = replica.length(),
-            Err(fault) => return Err(fault),
+        if ask_log(alloc, link, held, number, replica)? == 0 {
+            return Ok(());
         }
+        number = replica.length();
     }
 }
 

@@ -71,10 +71,8 @@ impl Replica {
         ensures applied { IfOk result (λ count. IsApplied self.old reply.now count self.new) }
         ensures fault { IfErr result (λ fault. IsFollowFault self.old reply.now fault self.new) }
     {
-        match read_whole(self.alloc, reply) {
-            Ok(read) => self.take_reply(&read),
-            Err(fault) => Err(fault),
-        }
+        let read = read_whole(self.alloc, reply)?;
+        self.take_reply(&read)
     }
 
     /// Takes the updates of a reply.
@@ -91,10 +89,8 @@ impl Replica {
                 have,
             });
         }
-        match self.take_updates(&reply.updates) {
-            Ok(()) => Ok(reply.updates.len()),
-            Err(fault) => Err(fault),
-        }
+        self.take_updates(&reply.updates)?;
+        Ok(reply.updates.len())
     }
 
     /// Takes updates in their order, up to the first that may not follow.
@@ -104,10 +100,7 @@ impl Replica {
         ensures fault { IfErr result (λ fault. IsTakingFault self.old (updates_of updates.now) fault self.new) }
     {
         for update in updates.as_slice() {
-            match self.take_update(update) {
-                Ok(()) => {}
-                Err(fault) => return Err(fault),
-            }
+            self.take_update(update)?;
         }
         Ok(())
     }

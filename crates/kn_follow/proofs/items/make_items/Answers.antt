@@ -1,4 +1,5 @@
 use Rattle.std.proofs.Common.{◌≡◌, ℕ, ◌<◌, [], length, ap, arith}
+use Rattle.std.proofs.lemmas.Result.{err_from_is_err_and}
 use Rattle.kn_wire.specs.declared.items.BatchItem.{BatchItem}
 use Rattle.kn_wire.specs.declared.items.BatchItem.TheVariants as B
 use Rattle.kn_follow.proofs.Takings.{asked_more, asked_unreadable}
@@ -12,13 +13,15 @@ loop-item-preserved c =
     let within : i < length items = omega (arith, ap length same) in
     let none : BatchItem = B.Add (record { ref_ptr = (0, 0); now = [] }) in
     asked_more c.as_slice-item-items.result.now items i none c.loop-item.made _ _ same within c.loop-item.invariant
-    c.in-Ok.ensures.item c.in-Ok-push.ensures.ok
+    c.in_ok-asked.ensures.item c.in-Ok.ensures.ok
 
-pub returns-in-Err-clause-unreadable : goal.returns-in-Err-clause-unreadable
-returns-in-Err-clause-unreadable c =
+pub returns-in_err-asked-clause-unreadable : goal.returns-in_err-asked-clause-unreadable
+returns-in_err-asked-clause-unreadable c =
+    let told = err_from_is_err_and c.from_residual.result c.from_residual.ensures.1 in
     let items = c.args.items.now in
     let same : c.as_slice-item-items.result.now ≡ items = c.as_slice-item-items.ensures in
     let i : ℕ = c.loop-item.item-index in
     let within : i < length items = omega (arith, ap length same) in
     let none : BatchItem = B.Add (record { ref_ptr = (0, 0); now = [] }) in
-    asked_unreadable c.as_slice-item-items.result.now items i none _ same within c.in-Err.ensures.unreadable
+    rw (told.1, told.2)
+    (asked_unreadable c.as_slice-item-items.result.now items i none _ same within c.in_err-asked.ensures.unreadable)
