@@ -76,7 +76,7 @@ fn is_served_side_by_side<R: Threads + Wait + Sync>(
         faults: 0,
     };
     let is_left = leaves(rt, alloc, two_rooms(alloc, first, second)?, 0, &gate, due)?;
-    Ok(is_left && !gate.was_missed())
+    Ok(is_left && gate.have_met())
 }
 
 /// The address can't be bound.
@@ -95,7 +95,7 @@ fn is_first_failure_told<R: Threads + Wait + Sync>(
     alloc: Global,
 ) -> Result<bool, NoMemory> {
     let first = two_links(alloc, (ASKS, OPENS), 0)?;
-    let rooms = two_rooms(alloc, first, no_links(alloc, 1)?)?;
+    let rooms = two_rooms(alloc, first, two_links(alloc, (OPENS_AND_ADDS, OPENS), 1)?)?;
     let due = Due {
         ending: AddressEnding::DoorFailed,
         written: (ANSWERS, b"OK 1 1\n", NONE),
@@ -124,7 +124,7 @@ fn is_want_of_links_told<R: Threads + Wait + Sync>(
     rt: &R,
     alloc: Global,
 ) -> Result<bool, NoMemory> {
-    let rooms = two_rooms(alloc, one_link(alloc, OPENS)?, no_links(alloc, 0)?)?;
+    let rooms = two_rooms(alloc, one_link(alloc, OPENS)?, no_links(alloc))?;
     let due = Due {
         ending: AddressEnding::DoorFailed,
         written: (b"OK 1 1\n", NONE, NONE),
@@ -203,12 +203,12 @@ fn with_link(links: List<MemLink>, link: MemLink) -> Result<List<MemLink>, NoMem
     }
 }
 
-/// A room without a link, whose door fails at this call; 0 for none.
-fn no_links(alloc: Global, failing: u32) -> Result<MemRoom, NoMemory> {
-    Ok(MemRoom {
+/// A room without a link.
+fn no_links(alloc: Global) -> MemRoom {
+    MemRoom {
         links: List::new(alloc),
-        failing: numbers(alloc, failing)?,
-    })
+        failing: List::new(alloc),
+    }
 }
 
 /// A room with a link of this input.

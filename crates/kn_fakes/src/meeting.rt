@@ -30,9 +30,10 @@ impl Meeting {
         }
     }
 
-    /// Whether one connection waited for the other in vain.
-    pub(crate) fn was_missed(&self) -> bool {
-        self.missed.load(SeqCst)
+    /// Whether both connections came, and neither waited for the other in vain.
+    pub(crate) fn have_met(&self) -> bool {
+        let have_come = self.first.load(SeqCst) && self.second.load(SeqCst);
+        have_come && !self.missed.load(SeqCst)
     }
 
     fn wait_for(&self, came: &AtomicBool) {

@@ -69,7 +69,9 @@ pub(crate) fn is_pulled_whole(alloc: Global) -> Result<bool, NoMemory> {
             return Ok(false);
         }
     }
-    Ok(true)
+    // Only a pull by single bytes has so many calls.
+    let cut = pull_all(alloc, ANSWERS, 1, 60)?;
+    Ok(cut.found == Err(PullFault::Read))
 }
 
 /// How many pulls of six end as they have to, each with another call that fails. The input comes in one piece: of four

@@ -33,7 +33,8 @@ BYE
 /// What somebody sends who asks whether alice may.
 pub const ASKS: &[u8] = b"OPEN\nAUTH 1 alice\nQUERY 1 no,yes\n";
 
-const CREDENTIAL: &[u8] = b"Authorizer: \"alice\"\nLicensees: \"bob\"";
+// The text of that credential.
+const CREDENTIAL: &[u8] = b"Authorizer: \"alice\"\nLicensees: \"bob\"\n";
 
 // A key, and the digest of no text.
 const OTHER_KEYS: &[u8] = b"# keys\nmac 0b0b alice
